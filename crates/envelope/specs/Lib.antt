@@ -1,0 +1,6 @@
+-- What the contracts cite, bottom to top.
+pub mod Curves
+pub mod Buckets
+pub mod Roots
+pub mod Tables
+pub mod Climbs

@@ -1,0 +1,4 @@
+pub mod Days
+pub mod Least
+pub mod Ranges
+pub mod Refusals

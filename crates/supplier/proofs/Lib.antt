@@ -1,0 +1,5 @@
+pub mod Rings
+pub mod Windows
+pub mod Finders
+pub mod Books
+pub mod Services

@@ -1,0 +1,9 @@
+pub mod Orders
+pub mod Limits
+pub mod Causes
+pub mod Kinds
+pub mod Books
+pub mod Windows
+pub mod Meaning
+pub mod Finders
+pub mod Ledgers

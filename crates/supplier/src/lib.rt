@@ -1,0 +1,33 @@
+// What a supplier is: faults, lines, limits, the book of orders, and the trait with its meaning.
+mod book;
+mod fault;
+mod ledger;
+mod limits;
+mod line;
+mod supplier;
+
+pub use book::Book;
+pub use book::broken::Broken;
+pub use book::broken::BrokenDebug;
+pub use book::broken::BrokenEq;
+pub use book::broken::BrokenPartialEq;
+pub use fault::Cause;
+pub use fault::CauseDebug;
+pub use fault::CauseEq;
+pub use fault::CausePartialEq;
+pub use fault::Fault;
+pub use fault::FaultDebug;
+pub use fault::FaultEq;
+pub use fault::FaultPartialEq;
+pub use ledger::Ledger;
+pub use ledger::TERM;
+pub use limits::Limits;
+pub use line::Kind;
+pub use line::KindDebug;
+pub use line::KindEq;
+pub use line::KindPartialEq;
+pub use line::Line;
+pub use line::LineDebug;
+pub use line::LineEq;
+pub use line::LinePartialEq;
+pub use supplier::Supplier;

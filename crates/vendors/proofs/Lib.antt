@@ -1,0 +1,4 @@
+pub mod Rising
+pub mod Serving
+pub mod Naming
+pub mod Weeks

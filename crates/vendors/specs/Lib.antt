@@ -1,0 +1,7 @@
+pub mod Vended
+pub mod Numbers
+pub mod Sources
+pub mod Periods
+pub mod Pipelines
+pub mod Departures
+pub mod Calendars
