@@ -5,9 +5,14 @@ use Prim.Native.Nat.{ℕ, zero, suc, _+_, _-_, _*_, _≤_, _<_, zero-le}
 use native.Mathlib.Nat.{zero-add, mul-suc}
 use native.Mathlib.Numerals.{add-one}
 use native.Mathlib.Omega.{arith}
+use lib.Dec.{ltb}
 use lib.ListN.{length, getD, take, drop, replicate}
-use Rattle.std.proofs.shelf.Lists.{take-take, drop-take, length-take}
-use Rattle.figures.specs.Days.{total, window, span, pushed}
+use Rattle.std.specs.declared.option.Option.{Option}
+use Rattle.std.specs.declared.option.Option.the-variants.{Some, None}
+use Rattle.std.specs.Options.{valueOr}
+use Rattle.std.proofs.shelf.Tests.{cond-false, le-ltb}
+use Rattle.std.proofs.shelf.Lists.{take-take, drop-take, drop-replicate, length-take}
+use Rattle.figures.specs.Days.{horizon, near, total, window, span, pushed}
 
 -- one more amount at the far end of a window
 pub window-suc : (n : ℕ) (xs : List ℕ) → window n xs + getD xs n 0 ≡ window (suc n) xs
@@ -79,6 +84,14 @@ window-then (suc i) j (x ∷ xs) =
     let e : suc i + j ≡ suc (i + j) = omega arith in
     rw e (omega arith)
 
+-- a stretch of a list's front is a stretch of the list
+pub span-front : (n upto from : ℕ) (xs : List ℕ) → upto ≤ from → from ≤ n → span upto from (take n xs) ≡ span upto from xs
+span-front n upto from xs h l = ap total (part-of-front upto (from - upto) n xs (omega arith))
+
+-- a reading up to the horizon is present
+pub near-value : (k x : ℕ) → k ≤ horizon → valueOr (near k x) 0 ≡ x
+near-value k x h = ap (λ o. valueOr o 0) (cond-false (ltb horizon k) None (Some x) (le-ltb horizon k h))
+
 -- zeros stay zeros
 pub zeros-get : (n k : ℕ) → _≡_ {A = ℕ} (getD (replicate n 0) k 0) 0
 zeros-get zero k = refl
@@ -90,6 +103,9 @@ zeros-window n zero = refl
 zeros-window zero (suc k) = refl
 zeros-window (suc n) (suc k) = let h = zeros-window n k in omega arith
 
+pub zeros-total : (n j k : ℕ) → total (take k (drop j (replicate n 0))) ≡ 0
+zeros-total n j k = rw (drop-replicate {X = ℕ} j n 0) (zeros-window (n - j) k)
+
 -- amounts that are each at most b add up to at most b for each place
 pub window-small : (b : ℕ) (k : ℕ) (xs : List ℕ) → ((i : ℕ) → getD xs i 0 ≤ b) → window k xs ≤ b * k
 window-small b zero xs h = zero-le
@@ -98,4 +114,26 @@ window-small b (suc k) (x ∷ xs) h =
     let r = window-small b k xs (λ i. h (suc i)) in
     let z = h 0 in
     let e = mul-suc b k in
+    omega arith
+
+-- amounts that are each at most b stay so where one at most b is put before them
+pub pushed-small : (b n x : ℕ) (xs : List ℕ) → ((i : ℕ) → getD xs i 0 ≤ b) → x ≤ b → (i : ℕ) → getD (pushed n x xs) i 0 ≤ b
+pushed-small b zero x xs h l i = zero-le
+pushed-small b (suc n) x xs h l zero = l
+pushed-small b (suc n) x xs h l (suc i) = front-small n xs h i
+  where
+    front-small : (n : ℕ) (ys : List ℕ) → ((i : ℕ) → getD ys i 0 ≤ b) → (i : ℕ) → getD (take n ys) i 0 ≤ b
+    front-small zero ys g i = zero-le
+    front-small (suc n) [] g i = zero-le
+    front-small (suc n) (y ∷ ys) g zero = g 0
+    front-small (suc n) (y ∷ ys) g (suc i) = front-small n ys (λ k. g (suc k)) i
+
+-- lists with the same places have the same windows
+pub window-agree : (n : ℕ) (xs ys : List ℕ) → ((j : ℕ) → j < n → getD xs j 0 ≡ getD ys j 0) → window n xs ≡ window n ys
+window-agree zero xs ys h = refl
+window-agree (suc n) xs ys h =
+    let a = window-suc n xs in
+    let b = window-suc n ys in
+    let c = h n (omega arith) in
+    let d = window-agree n xs ys (λ j l. h j (omega arith)) in
     omega arith

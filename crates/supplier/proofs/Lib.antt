@@ -3,3 +3,4 @@ pub mod Windows
 pub mod Finders
 pub mod Books
 pub mod Services
+pub mod Naming

@@ -8,8 +8,10 @@ use lib.Dec.{ltb}
 use lib.ListN.{length}
 use Rattle.std.specs.declared.option.Option.{Option}
 use Rattle.std.specs.declared.option.Option.the-variants.{Some, None}
-use Rattle.std.proofs.shelf.Tests.{ltb-true, ltb-false}
-use Rattle.figures.specs.Days.{horizon, most}
+use Rattle.std.proofs.shelf.Tests.{ltb-true, ltb-false, lt-ltb, cond-true}
+use Rattle.std.specs.Options.{valueOr}
+use Rattle.figures.specs.Days.{horizon, most, near}
+use Rattle.figures.proofs.Totals.{near-value}
 use Rattle.supplier.specs.declared.fault.Cause.{Cause}
 use Rattle.supplier.specs.declared.fault.Cause.the-variants.{TermSpent, OverDay, OverWindow}
 use Rattle.supplier.specs.declared.fault.Fault.{Fault}
@@ -61,3 +63,8 @@ told-agree f g k h = go (ltb 0 k) refl (ltb horizon k) refl
     go false p b q = refl
     go true p true q = refl
     go true p false q = ap Some (h k (ltb-true 0 k p) (ltb-false horizon k q))
+
+-- a limit of 1 day to the horizon is told
+pub told-value : (limit : ℕ → ℕ) (k : ℕ) → 1 ≤ k → k ≤ horizon → valueOr (told-limit limit k) 0 ≡ limit k
+told-value limit k a b =
+    ap (λ o. valueOr o 0) (cond-true (ltb 0 k) (near k (limit k)) None (lt-ltb 0 k a)) ∙ near-value k (limit k) b

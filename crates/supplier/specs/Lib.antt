@@ -2,8 +2,10 @@ pub mod Orders
 pub mod Limits
 pub mod Causes
 pub mod Kinds
+pub mod Numbers
 pub mod Books
 pub mod Windows
 pub mod Meaning
+pub mod Shelves
 pub mod Finders
 pub mod Ledgers

@@ -4,6 +4,7 @@ mod fault;
 mod ledger;
 mod limits;
 mod line;
+mod numbers;
 mod supplier;
 
 pub use book::Book;
@@ -30,4 +31,6 @@ pub use line::Line;
 pub use line::LineDebug;
 pub use line::LineEq;
 pub use line::LinePartialEq;
+pub use numbers::NUMBERS;
+pub use numbers::kept_number;
 pub use supplier::Supplier;

@@ -1,11 +1,13 @@
 // The supplier's meaning: what every supplier tells, and what a day does.
 ghost use mathlib.Core.Path.{_≡_};
-ghost use mathlib.Core.List.{List};
+ghost use mathlib.Core.List.{List, []};
 ghost use Prim.Native.Nat.{ℕ};
 ghost use lib.ListN.{length};
 ghost use Rattle.std.specs.Finite.{nth};
+ghost use Rattle.std.specs.shelf.Lists.{All};
 ghost use Rattle.supplier.specs.Limits.{told-limit};
 ghost use Rattle.supplier.specs.Meaning.{Meaning, Sound, Layout, untold, Day};
+ghost use Rattle.supplier.specs.Shelves.{Placed, Shelved, figures-of};
 use crate::fault::Fault;
 use crate::line::Line;
 
@@ -21,7 +23,12 @@ pub trait Supplier {
     /// How the sheet follows from the orders taken; it never changes. It need not be told.
     ghost layout: { Self → Layout } = { λ _. untold };
 
+    /// The shelves of the stages at and below this supplier; a vendor has none.
+    ghost shelves: { Self → List Placed } = { λ _. [] };
+
     law sound: { (s : Self) → valid s → Sound (meaning s) };
+
+    law shelved: { (s : Self) → valid s → All (Shelved (meaning s)) (shelves s) };
 
     /// The days from an order to its delivery.
     fn quote(&self) -> u8
@@ -51,5 +58,6 @@ pub trait Supplier {
     fn day(&mut self, q: u64) -> Result<u64, Fault>
         ensures stays { λ r. ⌜ (valid (now (self .entry)) → valid (now (self .exit))) ⌝ }
         ensures answers { λ r. ⌜ (valid (now (self .entry)) → Day (layout (now (self .entry))) (meaning (now (self .entry))) q r (meaning (now (self .exit)))) ⌝ }
-        ensures lays { λ r. ⌜ (valid (now (self .entry)) → layout (now (self .exit)) ≡ layout (now (self .entry))) ⌝ };
+        ensures lays { λ r. ⌜ (valid (now (self .entry)) → layout (now (self .exit)) ≡ layout (now (self .entry))) ⌝ }
+        ensures stocks { λ r. ⌜ (valid (now (self .entry)) → figures-of (shelves (now (self .exit))) ≡ figures-of (shelves (now (self .entry)))) ⌝ };
 }

@@ -1,4 +1,3 @@
 pub mod Rising
 pub mod Serving
-pub mod Naming
 pub mod Weeks

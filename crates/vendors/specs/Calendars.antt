@@ -10,7 +10,7 @@ use Rattle.supplier.specs.Orders.{no-orders}
 use Rattle.supplier.specs.Meaning.{Meaning, Layout}
 use Rattle.vendors.specs.declared.calendar.Calendar.{Calendar}
 use Rattle.vendors.specs.Vended.{vended, vendor-layout}
-use Rattle.vendors.specs.Numbers.{numbers, named}
+use Rattle.supplier.specs.Numbers.{numbers, named}
 use Rattle.vendors.specs.Periods.{periods}
 use Rattle.vendors.specs.Departures.{week, longest, Leaves, Timely}
 use Rattle.vendors.specs.Sources.{vendor-of}

@@ -1,5 +1,4 @@
 pub mod Vended
-pub mod Numbers
 pub mod Sources
 pub mod Periods
 pub mod Pipelines

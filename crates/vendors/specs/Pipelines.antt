@@ -11,7 +11,7 @@ use Rattle.supplier.specs.Orders.{no-orders}
 use Rattle.supplier.specs.Meaning.{Meaning, Layout}
 use Rattle.vendors.specs.declared.pipeline.Pipeline.{Pipeline}
 use Rattle.vendors.specs.Vended.{vended, vendor-layout}
-use Rattle.vendors.specs.Numbers.{numbers, named}
+use Rattle.supplier.specs.Numbers.{numbers, named}
 use Rattle.vendors.specs.Sources.{vendor-of}
 
 -- the most that the most pieces of a day can be

@@ -1,6 +1,5 @@
 // The vendors: suppliers with nothing below them.
 mod calendar;
-mod numbers;
 mod periods;
 mod pipeline;
 mod source;
@@ -9,3 +8,4 @@ pub use calendar::Calendar;
 pub use calendar::supplying::CalendarSupplier;
 pub use pipeline::Pipeline;
 pub use pipeline::supplying::PipelineSupplier;
+pub use source::Source;

@@ -6,14 +6,14 @@ ghost use Rattle.vendors.specs.Calendars.{calendar-ranges, most-travel, most-w
 use crate::calendar::Calendar;
 use crate::calendar::departing::WEEK;
 use crate::calendar::departing::longest_wait;
-use crate::numbers::NUMBERS;
-use crate::numbers::kept_number;
 use crate::periods::periodic_limits;
 use crate::source::Source;
 use figures::Range;
 use figures::Refusal;
 use figures::range_refusal;
 use supplier::Ledger;
+use supplier::NUMBERS;
+use supplier::kept_number;
 
 /// The ranges of the number, the mask, the travel and the weekly bound.
 const RANGES: [Range; 4] = [

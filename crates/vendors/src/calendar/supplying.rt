@@ -1,6 +1,8 @@
 // A calendar vendor as a supplier.
 ghost use mathlib.Core.Path.{_≡_};
+ghost use mathlib.Core.List.{List, []};
 ghost use Rattle.supplier.specs.Meaning.{Day};
+ghost use Rattle.supplier.specs.Shelves.{Shelf};
 ghost use Rattle.vendors.specs.Calendars.{meaning-of, layout-of, departure-figures};
 use crate::calendar::Calendar;
 use supplier::Fault;
@@ -47,6 +49,7 @@ pub impl Supplier for Calendar as CalendarSupplier {
         ensures stays { λ r. ⌜ (Unit {0} → Unit {0}) ⌝ }
         ensures answers { λ r. ⌜ (Unit {0} → Day (layout-of (now (self .entry))) (meaning-of (now (self .entry))) q r (meaning-of (now (self .exit)))) ⌝ }
         ensures lays { λ r. ⌜ (Unit {0} → layout-of (now (self .exit)) ≡ layout-of (now (self .entry))) ⌝ }
+        ensures stocks { λ r. ⌜ (Unit {0} → _≡_ {A = List Shelf} [] []) ⌝ }
         ensures departs { λ r. ⌜ departure-figures (now (self .exit)) ≡ departure-figures (now (self .entry)) ⌝ }
     {
         self.source.day(q)

@@ -5,8 +5,6 @@ ghost use Prim.Native.Nat.{_≤_};
 ghost use Rattle.figures.specs.Days.{horizon};
 ghost use Rattle.figures.specs.Refusals.{Answered, No-law};
 ghost use Rattle.vendors.specs.Pipelines.{pipeline-ranges, most-daily, opened, Made};
-use crate::numbers::NUMBERS;
-use crate::numbers::kept_number;
 use crate::periods::periodic_limits;
 use crate::pipeline::Pipeline;
 use crate::source::Source;
@@ -15,6 +13,8 @@ use figures::Range;
 use figures::Refusal;
 use figures::range_refusal;
 use supplier::Ledger;
+use supplier::NUMBERS;
+use supplier::kept_number;
 
 /// The ranges of the number, the lead and the most pieces of a day.
 const RANGES: [Range; 3] = [

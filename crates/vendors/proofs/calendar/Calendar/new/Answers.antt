@@ -1,7 +1,7 @@
 use mathlib.Core.Path.{_≡_, subst, _∙_}
 use native.Mathlib.Omega.{arith}
 use Rattle.vendors.specs.Calendars.{Opened}
-use Rattle.vendors.proofs.Naming.{named-kept}
+use Rattle.supplier.proofs.Naming.{named-kept}
 use Rattle.vendors.proofs.calendar.Calendar.new.Needs as need
 
 pub cast-mask : need.cast-mask

@@ -1,7 +1,7 @@
 use mathlib.Core.Path.{_≡_, subst, _∙_}
 use native.Mathlib.Omega.{arith}
 use Rattle.vendors.specs.Pipelines.{opened}
-use Rattle.vendors.proofs.Naming.{named-kept}
+use Rattle.supplier.proofs.Naming.{named-kept}
 use Rattle.vendors.proofs.pipeline.Pipeline.new.Needs as need
 
 pub cast-lead : need.cast-lead

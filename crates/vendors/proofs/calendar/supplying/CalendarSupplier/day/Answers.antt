@@ -10,6 +10,7 @@ returns c =
     record {
       stays = λ v. v;
       answers = λ v. vendor-day kind.Calendar (weekly (s .weekly)) (s .source) (c .args .q) (c .day .result) (c .day .last .self) (s .rises) (c .day .ensures);
+      stocks = λ v. refl;
       lays = λ v. vendor-lays kind.Calendar (s .source) (c .args .q) (c .day .result) (c .day .last .self) (c .day .ensures);
       departs = refl;
     }

@@ -1,6 +1,6 @@
 // The numbers of suppliers.
 ghost use mathlib.Core.Path.{_≡_};
-ghost use Rattle.vendors.specs.Numbers.{named};
+ghost use Rattle.supplier.specs.Numbers.{named};
 use figures::Range;
 
 /// The numbers that a supplier may have; they may repeat.

@@ -1,0 +1,12 @@
+pub mod Resting
+pub mod Topped
+pub mod Carried
+pub mod Lateness
+pub mod Tying
+pub mod Copying
+pub mod Asking
+pub mod Opening
+pub mod Scaling
+pub mod Joining
+pub mod Scaled
+pub mod Kitted

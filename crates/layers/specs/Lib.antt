@@ -1,0 +1,14 @@
+pub mod Idles
+pub mod Layers
+pub mod Questions
+pub mod Makings
+pub mod Carrying
+pub mod Sheets
+pub mod Delays
+pub mod DelayMaking
+pub mod Stages
+pub mod Stocks
+pub mod StageMaking
+pub mod Assemblies
+pub mod Kitting
+pub mod AssemblyMaking
