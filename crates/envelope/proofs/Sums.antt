@@ -1,6 +1,6 @@
 -- Sums over stretches of a list.
-use Rattle.std.proofs.Common.{◌≡◌, ℕ, zero, suc, ◌+◌, ◌-◌, ◌<◌, ◌≤◌, List, [], ◌∷◌, get_or, take, drop, refl, zero-add, add-one, arith}
-use Rattle.figures.specs.Days.{total, window}
+use Rattle.std.proofs.Common.{◌≡◌, ℕ, zero, suc, ◌+◌, ◌-◌, ◌<◌, ◌≤◌, List, get_or, add-one, arith}
+use Rattle.figures.specs.Days.{window}
 use Rattle.figures.proofs.Totals.{window-suc}
 
 -- the steps of what grows from 0 sum up to it

@@ -9,14 +9,14 @@ use figures::HORIZON;
 /// The bound of `k` days, where `k` is at most the horizon.
 fn near<E: Envelope>(e: &E, k: u8) -> u64
     requires { k ≤ horizon }
-    ensures { result ≡ (meaning e.now).bound k }
+    ensures { result ≡ (E.meaning e.now).bound k }
 {
     e.bound(k).unwrap_or(0)
 }
 
 /// The orders whose first `k` together are the bound of `k` days, for every `k` up to the horizon.
 pub fn climbing<E: Envelope>(e: &E) -> [u64; HORIZON]
-    ensures { Climbs (meaning e.now) result }
+    ensures { Climbs (E.meaning e.now) result }
 {
     let mut orders = [0; HORIZON];
     let mut before = 0;

@@ -1,4 +1,6 @@
 // Envelopes of demand: a bound for every stretch of days up to the horizon, and a mean.
+#![tactic(auto)]
+
 mod bucket;
 mod climb;
 mod envelope;

@@ -1,5 +1,5 @@
 -- Sums over parts of a list of amounts, of any length.
-use Rattle.std.proofs.Common.{◌≡◌, ℕ, zero, suc, ◌+◌, ◌-◌, ◌*◌, ◌<◌, ◌≤◌, ltb, List, [], ◌∷◌, length, get_or, take, drop, replicate, Some, None, Option, unwrap_or, sym, refl, ap, ◌∙◌, zero-le, zero-add, mul-suc, add-one, arith}
+use Rattle.std.proofs.Common.{◌≡◌, ℕ, zero, suc, ◌+◌, ◌-◌, ◌*◌, ◌<◌, ◌≤◌, ltb, List, [], ◌∷◌, length, get_or, take, drop, replicate, Some, None, unwrap_or, sym, refl, ap, ◌∙◌, zero-le, zero-add, mul-suc, add-one, arith}
 use Rattle.std.proofs.lemmas.Bool.{cond-false, le-ltb}
 use Rattle.std.proofs.lemmas.List.{take-take, drop-take, drop-replicate, length-take}
 use Rattle.figures.specs.Days.{horizon, near, total, window, span, pushed}

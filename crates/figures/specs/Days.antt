@@ -1,5 +1,5 @@
 -- Amounts day by day, and their sums. The length of the horizon is named once, here.
-use Rattle.std.specs.Prelude.{ℕ, ◌+◌, ◌-◌, cond, List, [], ◌∷◌, take, Some, None, Option, nat_lt, slice_index, slice_range}
+use Rattle.std.specs.Prelude.{ℕ, ◌+◌, cond, List, [], ◌∷◌, take, Some, None, Option, nat_lt, slice_index, slice_range}
 
 -- how many days quotes, windows and books reach
 abbrev pub horizon : ℕ

@@ -1,4 +1,6 @@
 // The horizon, the ranges that figures keep, and the refusals that figures get.
+#![tactic(auto)]
+
 mod horizon;
 mod questions;
 mod ranges;

@@ -1,6 +1,6 @@
 -- What an earlier delivery has brought and a later one has not: the orders between.
-use Rattle.std.proofs.Common.{◌≡◌, ℕ, zero, suc, ◌+◌, ◌-◌, ◌≤◌, List, [], ◌∷◌, get_or, take, drop, sym, refl, ap, ◌∙◌, arith}
-use Rattle.figures.specs.Days.{total, span}
+use Rattle.std.proofs.Common.{◌≡◌, ℕ, ◌+◌, ◌-◌, ◌≤◌, List, [], ◌∷◌, get_or, ap, arith}
+use Rattle.figures.specs.Days.{span}
 use Rattle.figures.proofs.Totals.{slides, zeros_total}
 use Rattle.supplier.specs.Orders.{delivered}
 

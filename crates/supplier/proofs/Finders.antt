@@ -1,12 +1,11 @@
 -- What a finder answers, in plain words and by its parts.
-use Rattle.std.proofs.Common.{◌≡◌, ℕ, zero, suc, ◌+◌, ◌<◌, ◌≤◌, Bool, true, false, cond, eqb, List, ◌∷◌, Some, None, Option, sym, refl, ap, ◌∙◌, subst, ⊎_elim, arith}
+use Rattle.std.proofs.Common.{◌≡◌, ℕ, zero, suc, ◌+◌, ◌<◌, ◌≤◌, false, cond, eqb, List, ◌∷◌, Some, None, Option, sym, refl, ap, ◌∙◌, subst, ⊎_elim, arith}
 use Rattle.std.specs.Option.{option_map}
 use Rattle.std.proofs.lemmas.Bool.{cases_eq, eq-eqb, ne_eqb, cond-true, cond-false}
 use Rattle.figures.specs.Days.{horizon, window}
 use Rattle.supplier.specs.declared.book.broken.Broken.{Broken}
 use Rattle.supplier.specs.declared.fault.Cause.TheVariants.{TermSpent, OverDay, OverWindow}
-use Rattle.supplier.specs.declared.fault.Fault.{Fault}
-use Rattle.supplier.specs.Orders.{term, Fits}
+use Rattle.supplier.specs.Orders.{term}
 use Rattle.supplier.specs.Windows.{least_broken, broken_at, first_broken}
 use Rattle.supplier.specs.Finders.{fault, over, finds, Plain}
 use Rattle.supplier.proofs.Windows.{BreaksFirst, broken_shows, unbroken_shows, first_agree}

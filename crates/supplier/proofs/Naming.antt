@@ -1,5 +1,5 @@
 -- A number in range is kept.
-use Rattle.std.proofs.Common.{◌≡◌, ℕ, true, ◌&&◌, leb}
+use Rattle.std.proofs.Common.{◌≡◌, ℕ, ◌&&◌, leb}
 use Rattle.std.proofs.lemmas.Bool.{le-leb, and_from, cond-true}
 use Rattle.figures.specs.Ranges.{Within}
 use Rattle.supplier.specs.Numbers.{numbers, named}

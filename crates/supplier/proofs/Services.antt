@@ -1,5 +1,5 @@
 -- A supplier that finds its refusals itself keeps the supplier's law.
-use Rattle.std.proofs.Common.{◌≡◌, ℕ, zero, suc, ◌+◌, ◌<◌, ◌≤◌, Bool, true, false, cond, ltb, List, ◌∷◌, length, Some, None, Option, unwrap_or, sym, refl, ap, ◌∙◌, subst, arith}
+use Rattle.std.proofs.Common.{◌≡◌, ℕ, ◌+◌, ◌<◌, ◌≤◌, Bool, true, false, cond, ltb, List, length, Some, None, Option, unwrap_or, refl, ap, ◌∙◌, arith}
 use Rattle.std.proofs.lemmas.Bool.{ltb-true, ltb-false, lt-ltb, cond-true}
 use Rattle.figures.specs.Days.{horizon, most, near}
 use Rattle.figures.proofs.Totals.{near_value}
@@ -9,7 +9,7 @@ use Rattle.supplier.specs.declared.fault.Fault.{Fault}
 use Rattle.supplier.specs.Orders.{term, Before, Fits}
 use Rattle.supplier.specs.Limits.{told_limit}
 use Rattle.supplier.specs.Finders.{finds, finder, Plain, Found}
-use Rattle.supplier.specs.Meaning.{Service, Steady, Refused, Caused, RefusedBy, CausedBy}
+use Rattle.supplier.specs.Meaning.{Steady, Refused, Caused, RefusedBy, CausedBy}
 use Rattle.supplier.proofs.Finders.{finds_plain}
 
 module _ (number quote : ℕ) (limit : ℕ → ℕ) (days : ℕ) (book : List ℕ) where

@@ -3,7 +3,7 @@ use Rattle.std.proofs.Common.{◌≡◌, ℕ, zero, suc, ◌+◌, ◌-◌, ◌<�
 use Rattle.std.specs.Option.{option_map}
 use Rattle.std.proofs.lemmas.Bool.{ltb-true, ltb-false, lt-ltb, le-ltb}
 use Rattle.figures.specs.Days.{for_days, horizon, most, window}
-use Rattle.figures.proofs.Least.{Found, least_found, least_absent, least_shows, absent_shows, least_agree}
+use Rattle.figures.proofs.Least.{least_found, least_absent, least_shows, absent_shows, least_agree}
 use Rattle.supplier.specs.Orders.{FitsWithin}
 use Rattle.supplier.specs.Limits.{High, Grows}
 use Rattle.supplier.specs.Windows.{Clear, least_broken, broken_at, first_broken}

@@ -1,5 +1,5 @@
 -- What a supplier means, what holds of every meaning, and what a day does to it.
-use Rattle.std.specs.Prelude.{◌≡◌, ℕ, ◌+◌, ◌<◌, ◌≤◌, List, [], ◌∷◌, length, Some, None, Ok, Err, Option, Result}
+use Rattle.std.specs.Prelude.{◌≡◌, ℕ, ◌+◌, ◌<◌, ◌≤◌, List, ◌∷◌, length, Some, None, Ok, Err, Option, Result}
 use Rattle.figures.specs.Days.{horizon, most}
 use Rattle.supplier.specs.declared.fault.Cause.{Cause}
 use Rattle.supplier.specs.declared.fault.Cause.TheVariants.{TermSpent, OverDay, OverWindow}

@@ -1,4 +1,6 @@
 // What a supplier is: faults, lines, limits, the book of orders, and the trait with its meaning.
+#![tactic(auto)]
+
 mod book;
 mod fault;
 mod ledger;

@@ -15,5 +15,5 @@ flat n x i h =
     let b : get_or (replicate n x) (i + 1) 0 ≡ x = get_or-replicate n (i + 1) x 0 h in
     omega arith
 
-pub invariant-of-limits : goal.invariant-of-limits
-invariant-of-limits c = (refl, ((λ i. omega (arith, level horizon 10 i)), (flat horizon 10, tt)))
+pub invariant_of-limits : goal.invariant_of-limits
+invariant_of-limits c = record { wide = refl; high = λ i. omega (arith, level horizon 10 i); grows = flat horizon 10 }

@@ -4,8 +4,8 @@ use Rattle.envelope.proofs.Climbs.{climbs}
 use Rattle.envelope.proofs.climb.climbing.Goals as goal
 
 -- the bound never falls
-pub overflow-sub-orders : goal.overflow-sub-orders
-overflow-sub-orders g c = omega (arith, (g.met.E.Envelope.lawful c.args.e.now).grows c.loop-k.k (omega arith))
+pub overflow_sub-orders : goal.overflow_sub-orders
+overflow_sub-orders g c = omega (arith, (g.met.E.Envelope.lawful c.args.e.now).grows c.loop-k.k (omega arith))
 
 pub loop-k-preserved : goal.loop-k-preserved
 loop-k-preserved g c =

@@ -1,5 +1,5 @@
 -- Halving keeps the least root in the stretch.
-use Rattle.std.proofs.Common.{◌≡◌, ℕ, ◌+◌, ◌*◌, ◌/◌, ◌<◌, ◌≤◌, subst, arith}
+use Rattle.std.proofs.Common.{◌≡◌, ◌+◌, ◌*◌, ◌/◌, ◌<◌, ◌≤◌, subst, arith}
 use Rattle.envelope.specs.LeastRoots.{above-short, is_root_up}
 use Rattle.envelope.proofs.root.least_root.Goals as goal
 

@@ -1,4 +1,4 @@
-use Rattle.std.proofs.Common.{◌≡◌, ℕ, ◌+◌, ◌-◌, ◌<◌, arith, below_more}
+use Rattle.std.proofs.Common.{◌≡◌, ◌+◌, ◌-◌, arith, below_more}
 use Rattle.figures.specs.Ranges.{Good}
 use Rattle.figures.proofs.ranges.first_out.Goals as goal
 use Rattle.figures.proofs.ranges.first_out.Goals.{else-i-ranges-via-then-i-ranges+else-not-holds, else-i-ranges-via-else-i-ranges}

@@ -10,9 +10,9 @@ use Rattle.records.proofs.filling.fill.Goals as goal
 pub loop-i-init : goal.loop-i-init
 loop-i-init c = (omega arith, (good_none c.args.ranges.now c.args.text.now, refl))
 
-pub returns-in-default : goal.returns-in-default
-returns-in-default c =
-    let p = subst (Progress c.args.ranges.now c.args.text.now (take c.loop-i.i c.loop-i.figures)) c.in-default.is c.loop-i.invariant.1 in
+pub returns-in_default : goal.returns-in_default
+returns-in_default c =
+    let p = subst (Progress c.args.ranges.now c.args.text.now (take c.loop-i.i c.loop-i.figures)) c.in_default.is c.loop-i.invariant.1 in
     let l = length-take c.loop-i.i c.loop-i.figures in
     let e = c.loop-i.invariant.0 in
     (inl (record { before = take c.loop-i.i c.loop-i.figures; good = p.0; some = p.1; due = omega arith; here = omega arith; written = p.2 }), refl)

@@ -2,14 +2,14 @@ use Rattle.std.proofs.Common.{◌≡◌, ℕ, ◌<◌, ◌≤◌, List, ◌∷�
 use Rattle.std.proofs.lemmas.List.{get_or_append_left}
 use Rattle.records.proofs.lines.next_line.Goals as goal
 
-pub returns-in-default : goal.returns-in-default
-returns-in-default c =
+pub returns-in_default : goal.returns-in_default
+returns-in_default c =
     let line = c.cut.result.0.now in
-    let e = subst (λ o. MatchOption o (c.args.rest.now ≡ line) (λ r. c.args.rest.now ≡ line ++ 10 ∷ r.now)) c.in-default.is c.cut.ensures.parts in
+    let e = subst (λ o. MatchOption o (c.args.rest.now ≡ line) (λ r. c.args.rest.now ≡ line ++ 10 ∷ r.now)) c.in_default.is c.cut.ensures.parts in
     (λ i near h x. c.cut.ensures.lacks i (subst (λ (xs : List ℕ). i < length xs) e h) (ap (λ (xs : List ℕ). get_or xs i 0) (sym e) ∙ x), refl)
 
-pub returns-then-line-gt-MOST-BYTES : goal.returns-then-line-gt-MOST-BYTES
-returns-then-line-gt-MOST-BYTES c =
+pub returns-then-line-gt-MOST_BYTES : goal.returns-then-line-gt-MOST_BYTES
+returns-then-line-gt-MOST_BYTES c =
     let line = c.cut.result.0.now in
     let e = subst (λ o. MatchOption o (c.args.rest.now ≡ line) (λ r. c.args.rest.now ≡ line ++ 10 ∷ r.now)) c.in-Some.is c.cut.ensures.parts in (
       λ i near h x.

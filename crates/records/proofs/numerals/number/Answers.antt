@@ -16,19 +16,19 @@ returns-then-word-eq0 c n w =
 pub returns-then-word-gt1 : goal.returns-then-word-gt1
 returns-then-word-gt1 c n w = let s = writes_shape c.args.word.now n w in let e = s.lean (omega arith) in omega arith
 
-pub returns-then-not-is-ascii-digit : goal.returns-then-not-is-ascii-digit
-returns-then-not-is-ascii-digit c n w =
+pub returns-then-not-is_ascii_digit : goal.returns-then-not-is_ascii_digit
+returns-then-not-is_ascii_digit c n w =
     let x = get_or c.args.word.now c.loop-digit.digit-index 0 in
     let s = writes_shape c.args.word.now n w in
     let d = s.digits c.loop-digit.digit-index (omega arith) in
     ⊎_elim (λ (l : x < 48). omega arith) (λ (l : 57 < x). omega arith)
-    (subst (λ b. MatchBool b (IsInRange 48 57 x) (IsOutOfRange 48 57 x)) c.if-not-is-ascii-digit.true c.is-ascii-digit.ensures.cases)
+    (subst (λ b. MatchBool b (IsInRange 48 57 x) (IsOutOfRange 48 57 x)) c.if-not-is_ascii_digit.true c.is_ascii_digit.ensures.cases)
 
-pub overflow-mul-n : goal.overflow-mul-n
-overflow-mul-n c = let l = few-small c.loop-digit.digit-index c.loop-digit.n (omega arith) c.loop-digit.invariant.1 in omega arith
+pub overflow_mul-n : goal.overflow_mul-n
+overflow_mul-n c = let l = few-small c.loop-digit.digit-index c.loop-digit.n (omega arith) c.loop-digit.invariant.1 in omega arith
 
-pub overflow-add-n : goal.overflow-add-n
-overflow-add-n c = let l = few-small c.loop-digit.digit-index c.loop-digit.n (omega arith) c.loop-digit.invariant.1 in omega arith
+pub overflow_add-n : goal.overflow_add-n
+overflow_add-n c = let l = few-small c.loop-digit.digit-index c.loop-digit.n (omega arith) c.loop-digit.invariant.1 in omega arith
 
 pub loop-digit-preserved : goal.loop-digit-preserved
 loop-digit-preserved c =
@@ -37,7 +37,7 @@ loop-digit-preserved c =
     let n = c.loop-digit.n in
     let d = get_or w i 0 in
     let h : i < length w = omega arith in
-    let k : IsInRange 48 57 d = subst (λ b. MatchBool b (IsInRange 48 57 d) (IsOutOfRange 48 57 d)) c.if-not-is-ascii-digit.false c.is-ascii-digit.ensures.cases in (
+    let k : IsInRange 48 57 d = subst (λ b. MatchBool b (IsInRange 48 57 d) (IsOutOfRange 48 57 d)) c.if-not-is_ascii_digit.false c.is_ascii_digit.ensures.cases in (
       one_more w i n h c.loop-digit.invariant.0 k.0 k.1,
       one-more-small i n (d - 48) c.loop-digit.invariant.1 (omega (arith, k.1)),
       below_more _ i c.loop-digit.invariant.2 k,

@@ -4,8 +4,8 @@ use Rattle.vendors.specs.Periods.{periods, Rises}
 use Rattle.vendors.proofs.Rising.{periods_grow, periods_next, rises_high, rises_grow}
 use Rattle.vendors.proofs.periods.periodic_limits.Goals as goal
 
-pub overflow-mul-bounds : goal.overflow-mul-bounds
-overflow-mul-bounds c =
+pub overflow_mul-bounds : goal.overflow_mul-bounds
+overflow_mul-bounds c =
     let p = c.args.period in
     let e = ap (λ n. c.args.amount * n) (periods_next p c.loop-i.i c.requires.some) in
     let m = mul-le-mul_left c.args.amount (periods_grow p (suc c.loop-i.i) horizon c.requires.some (omega arith)) in
@@ -26,16 +26,15 @@ rises : (period amount : ℕ) (bounds : List ℕ) → 1 ≤ period → ((k : ℕ
 rises period amount bounds p h zero l m = absurd (omega arith)
 rises period amount bounds p h (suc k) l m = h k (omega arith) ∙ ap (λ n. amount * n) (periods_next period k p)
 
-pub invariant-of-result : goal.invariant-of-result
-invariant-of-result c =
+pub invariant_of-result : goal.invariant_of-result
+invariant_of-result c =
     let b = c.loop-i.bounds in
-    let r = rises c.args.period c.args.amount b c.requires.some (λ k h. c.loop-i.invariant.1 k (omega arith)) in (
-      c.loop-i.invariant.0,
-      (
-        rises_high c.args.period c.args.amount b r c.requires.some c.loop-i.invariant.0 c.requires.few,
-        (rises_grow c.args.period c.args.amount b r c.requires.some, tt),
-      ),
-    )
+    let r = rises c.args.period c.args.amount b c.requires.some (λ k h. c.loop-i.invariant.1 k (omega arith)) in
+    record {
+      wide = c.loop-i.invariant.0;
+      high = rises_high c.args.period c.args.amount b r c.requires.some c.loop-i.invariant.0 c.requires.few;
+      grows = rises_grow c.args.period c.args.amount b r c.requires.some;
+    }
 
 pub returns : goal.returns
 returns c = rises c.args.period c.args.amount c.loop-i.bounds c.requires.some (λ k h. c.loop-i.invariant.1 k (omega arith))

@@ -9,17 +9,17 @@ use Rattle.assemblies.proofs.assembly.Assembling.over.Goals as goal
 
 pub unkitted-own-requires : goal.unkitted-own-requires
 unkitted-own-requires g c =
-    let p = c.in-default.ensures.ranged in
+    let p = c.in_default.ensures.ranged in
     let x = p 1 (omega arith) (omega arith) in
     let y = p 2 (omega arith) (omega arith) in
-    record { left-some = x.0; left-few = x.1; right-some = y.0; right-few = y.1 }
+    record { left_some = x.0; left_few = x.1; right_some = y.0; right_few = y.1 }
 
 pub returns : goal.returns
 returns g c v w =
     let own = c.unkitted-own.result in
     let e = c.unkitted-own.ensures in
-    let p = c.in-default.ensures.asked v w in
-    let n = c.kept-number-2.ensures ∙ named-kept c.args.number (p.0 0 (omega arith) (omega arith)) in
+    let p = c.in_default.ensures.asked v w in
+    let n = c.kept_number-2.ensures ∙ named-kept c.args.number (p.0 0 (omega arith) (omega arith)) in
     let named = subst (λ k. Unkitted k c.args.a c.args.b own) n e in (
       p,
       record {
@@ -37,6 +37,6 @@ returns-in-Some g c v w =
     let R = (g.R.Supplier.meaning c.args.right).service in (
       never_passes assembly_ranges (c.args.number ∷ c.args.a ∷ c.args.b ∷ []) ((L.days ≡ 0) × (R.days ≡ 0)) (Unit {0}) (Unit {0}) (Unit {0})
           c.in-Some.field-0 (c.in-Some.ensures.asked v w),
-      c.new.ensures ∙ ap (idled kind.Assembly) c.kept-number.ensures,
+      c.new.ensures ∙ ap (idled kind.Assembly) c.kept_number.ensures,
       refl,
     )

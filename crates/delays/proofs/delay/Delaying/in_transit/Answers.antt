@@ -9,6 +9,6 @@ pub returns : goal.returns
 returns g c =
     let s = c.args.self.now in
     let row = orders_of s.own.received in
-    let e : c.unwrap-or.result ≡ window s.own.delay row =
-    c.unwrap-or.ensures ∙ ap (λ o. unwrap_or o 0) c.sum.ensures ∙ near_value s.own.delay (window s.own.delay row) s.own.brief in
-    record { told = e; conserves = delay_conserves (g.S.Supplier.valid s.below) (g.S.Supplier.meaning s.below) s.own c.unwrap-or.result e }
+    let e : c.unwrap_or.result ≡ window s.own.delay row =
+    c.unwrap_or.ensures ∙ ap (λ o. unwrap_or o 0) c.sum.ensures ∙ near_value s.own.delay (window s.own.delay row) s.own.brief in
+    record { told = e; conserves = delay_conserves (g.S.Supplier.valid s.below) (g.S.Supplier.meaning s.below) s.own c.unwrap_or.result e }

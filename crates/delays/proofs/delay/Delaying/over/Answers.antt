@@ -6,19 +6,19 @@ use Rattle.delays.specs.DelayMaking.{Fresh}
 use Rattle.delays.proofs.Lateness.{new_book}
 use Rattle.delays.proofs.delay.Delaying.over.Goals as goal
 
-pub overflow-cast-delay : goal.overflow-cast-delay
-overflow-cast-delay g c = let d = c.in-default.ensures.ranged 1 (omega arith) (omega arith) in omega arith
+pub overflow_cast-delay : goal.overflow_cast-delay
+overflow_cast-delay g c = let d = c.in_default.ensures.ranged 1 (omega arith) (omega arith) in omega arith
 
 pub fresh-requires : goal.fresh-requires
-fresh-requires g c = (c.in-default.ensures.ranged 1 (omega arith) (omega arith)).1
+fresh-requires g c = (c.in_default.ensures.ranged 1 (omega arith) (omega arith)).1
 
 pub returns : goal.returns
 returns g c v =
     let m = (g.S.Supplier.meaning c.args.below).service in
     let own = c.fresh.result in
     let e = c.fresh.ensures in
-    let p = c.in-default.ensures.asked v in
-    let n = c.kept-number-2.ensures ∙ named-kept c.args.number (p.0 0 (omega arith) (omega arith)) in
+    let p = c.in_default.ensures.asked v in
+    let n = c.kept_number-2.ensures ∙ named-kept c.args.number (p.0 0 (omega arith) (omega arith)) in
     let none = new_book m (g.met.S.Supplier.sound c.args.below v).service p.1 in (
       p,
       record {

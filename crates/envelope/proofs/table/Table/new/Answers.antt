@@ -6,8 +6,8 @@ use Rattle.figures.proofs.Answered.{never_both}
 use Rattle.envelope.specs.TablesLemmas.{zeros_in, zeros_unbroken}
 use Rattle.envelope.proofs.table.Table.new.Goals as goal
 
-pub invariant-of-result : goal.invariant-of-result
-invariant-of-result c = (refl, (zeros_in, (zeros_unbroken horizon, tt)))
+pub invariant_of-result : goal.invariant_of-result
+invariant_of-result c = record { wide = refl; within = zeros_in; unbroken = zeros_unbroken horizon }
 
 pub returns-in-Some : goal.returns-in-Some
 returns-in-Some c =

@@ -11,15 +11,15 @@ pub returns-in-Some : goal.returns-in-Some
 returns-in-Some c =
     first_out_more daily c.args.mean bound_ranges c.args.bounds c.in-Some.place c.if-not-holds.ensures c.in-Some.ensures
 
-pub first-broken-requires : goal.first-broken-requires
-first-broken-requires c =
+pub first_broken-requires : goal.first_broken-requires
+first_broken-requires c =
     let wide : length c.args.bounds ≡ horizon = omega arith in
-    (c.if-not-holds.ensures, bounded c.args.bounds wide c.in-default.ensures)
+    (c.if-not-holds.ensures, bounded c.args.bounds wide c.in_default.ensures)
 
-pub returns-in-Some-first-broken : goal.returns-in-Some-first-broken
-returns-in-Some-first-broken c =
-    let f = c.in-Some-first-broken.ensures in (
-      all_in_more daily c.args.mean bound_ranges c.args.bounds c.if-not-holds.ensures c.in-default.ensures,
-      (c.in-Some-first-broken.k, refl, f.from_one, f.near, f.breaks),
+pub returns-in-Some-first_broken : goal.returns-in-Some-first_broken
+returns-in-Some-first_broken c =
+    let f = c.in-Some-first_broken.ensures in (
+      all_in_more daily c.args.mean bound_ranges c.args.bounds c.if-not-holds.ensures c.in_default.ensures,
+      (c.in-Some-first_broken.k, refl, f.from_one, f.near, f.breaks),
       λ p h b. f.first b.0 b.2 (let e = b.1 in omega arith) b.4,
     )

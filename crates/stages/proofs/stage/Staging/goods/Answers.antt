@@ -9,10 +9,10 @@ pub returns : goal.returns
 returns g c =
     let s = c.args.self.now in
     let row = orders_of s.own.works in
-    let e : c.unwrap-or.result ≡ window s.own.process row =
-    c.unwrap-or.ensures ∙ ap (λ o. unwrap_or o 0) c.sum.ensures ∙ near_value s.own.process (window s.own.process row) s.own.brief in
+    let e : c.unwrap_or.result ≡ window s.own.process row =
+    c.unwrap_or.ensures ∙ ap (λ o. unwrap_or o 0) c.sum.ensures ∙ near_value s.own.process (window s.own.process row) s.own.brief in
     record {
       shelf = refl;
       process = e;
-      conserves = stage_conserves (g.S.Supplier.valid s.below) (g.S.Supplier.meaning s.below) s.own (record { on_shelf = s.own.shelf; in_process = c.unwrap-or.result }) refl e;
+      conserves = stage_conserves (g.S.Supplier.valid s.below) (g.S.Supplier.meaning s.below) s.own (record { on_shelf = s.own.shelf; in_process = c.unwrap_or.result }) refl e;
     }

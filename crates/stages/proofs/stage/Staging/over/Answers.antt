@@ -17,19 +17,19 @@ returns-in-Some g c v =
       never_passes stage_ranges (c.args.number ∷ process ∷ quote ∷ c.args.base ∷ []) (m.days ≡ 0)
           ((m.quote + process ≤ horizon) × (quote ≤ m.quote + process)) (Under V m.limit) (V ((m.quote + process) - quote) ≤ c.args.base)
           c.in-Some.field-0 (c.in-Some.ensures.asked v),
-      c.new.ensures ∙ ap (idled kind.Stage) c.kept-number.ensures,
+      c.new.ensures ∙ ap (idled kind.Stage) c.kept_number.ensures,
       refl,
     )
 
-pub overflow-cast-process : goal.overflow-cast-process
-overflow-cast-process g c = let d = c.in-default.ensures.ranged 1 (omega arith) (omega arith) in omega arith
+pub overflow_cast-process : goal.overflow_cast-process
+overflow_cast-process g c = let d = c.in_default.ensures.ranged 1 (omega arith) (omega arith) in omega arith
 
-pub overflow-cast-quote : goal.overflow-cast-quote
-overflow-cast-quote g c = let d = c.in-default.ensures.ranged 2 (omega arith) (omega arith) in omega arith
+pub overflow_cast-quote : goal.overflow_cast-quote
+overflow_cast-quote g c = let d = c.in_default.ensures.ranged 2 (omega arith) (omega arith) in omega arith
 
 pub stocked-own-requires : goal.stocked-own-requires
 stocked-own-requires g c =
-    let p = c.in-default.ensures.ranged in
+    let p = c.in_default.ensures.ranged in
     record { brief = (p 1 (omega arith) (omega arith)).1; near = (p 2 (omega arith) (omega arith)).1; small = (p 3 (omega arith) (omega arith)).1 }
 
 pub returns : goal.returns
@@ -38,9 +38,9 @@ returns g c v =
     let V = (g.E.Envelope.meaning c.args.envelope.now).bound in
     let own = c.stocked-own.result in
     let e = c.stocked-own.ensures in
-    let p = c.in-default.ensures.asked v in
+    let p = c.in_default.ensures.asked v in
     let copy = c.copied.ensures in
-    let n = c.kept-number-2.ensures ∙ named-kept c.args.number (p.0 0 (omega arith) (omega arith)) in
+    let n = c.kept_number-2.ensures ∙ named-kept c.args.number (p.0 0 (omega arith) (omega arith)) in
     let named = subst (λ k. Stocked k c.copied.result.bounds c.args.process c.args.quote c.args.base own) n e in (
       p,
       record {

@@ -8,19 +8,23 @@ pub loop-i-preserved : goal.loop-i-preserved
 loop-i-preserved g c =
     let i = c.loop-i.i in
     let V = (g.E.Envelope.meaning c.args.envelope.now).bound in
-    let e : c.unwrap-or.result ≡ V (i + 1) = c.unwrap-or.ensures ∙ ap (λ o. unwrap_or o 0) c.bound.ensures ∙ near_value (i + 1) (V (i + 1)) (omega arith) in (
+    let e : c.unwrap_or.result ≡ V (i + 1) = c.unwrap_or.ensures ∙ ap (λ o. unwrap_or o 0) c.bound.ensures ∙ near_value (i + 1) (V (i + 1)) (omega arith) in (
       simp length-set c.loop-i.invariant.0,
       below_more _ _
           (λ k h. let ne : k ≢ i = omega arith in rw get_or-set_other (c.loop-i.invariant.1 k h))
           (let lt : i < length c.loop-i.bounds = omega arith in rw get_or-set_same e),
     )
 
-pub invariant-of-result : goal.invariant-of-result
-invariant-of-result g c =
+pub invariant_of-result : goal.invariant_of-result
+invariant_of-result g c =
     let m = g.E.Envelope.meaning c.args.envelope.now in
     let lawful = g.met.E.Envelope.lawful c.args.envelope.now in
     let steps = λ (i : ℕ) (h : i < horizon). c.loop-i.invariant.1 i (omega arith) in
-    (c.loop-i.invariant.0, (copies_high m lawful c.loop-i.bounds c.loop-i.invariant.0 steps, (copies_grow m lawful c.loop-i.bounds c.loop-i.invariant.0 steps, tt)))
+    record {
+      wide = c.loop-i.invariant.0;
+      high = copies_high m lawful c.loop-i.bounds c.loop-i.invariant.0 steps;
+      grows = copies_grow m lawful c.loop-i.bounds c.loop-i.invariant.0 steps;
+    }
 
 pub returns : goal.returns
 returns g c =

@@ -1,4 +1,4 @@
-use Rattle.std.proofs.Common.{◌≡◌, ℕ, ◌+◌, ◌<◌, ◌≤◌, ◌∷◌, get_or, Some, sym, ap, ◌∙◌, subst, ⊎_elim, arith}
+use Rattle.std.proofs.Common.{◌≡◌, ◌+◌, ◌<◌, ◌≤◌, ◌∷◌, get_or, Some, sym, ap, ◌∙◌, subst, ⊎_elim, arith}
 use Rattle.std.specs.Option.{option_map}
 use Rattle.std.proofs.lemmas.Bool.{cases_lt}
 use Rattle.figures.specs.Days.{for_days, horizon, most, window}
@@ -8,8 +8,8 @@ use Rattle.supplier.specs.Windows.{broken_at}
 use Rattle.supplier.proofs.Windows.{broken_found, broken_absent, limit_at, limit-high, behind}
 use Rattle.supplier.proofs.book.Book.first_broken.Goals as goal
 
-pub overflow-add-sum : goal.overflow-add-sum
-overflow-add-sum c =
+pub overflow_add-sum : goal.overflow_add-sum
+overflow_add-sum c =
     let b = c.args.limits.now.bounds in
     let w = c.loop-i.invariant.1 c.loop-i.i c.loop-i.auto.i (omega arith) in
     let h = limit-high b c.args.limits.now.high c.loop-i.i in

@@ -1,5 +1,4 @@
-use Rattle.std.proofs.Common.{◌≡◌, ◌+◌, ◌-◌, length, get_or, sym, ap, ◌∙◌, arith}
-use Rattle.figures.specs.Days.{horizon}
+use Rattle.std.proofs.Common.{◌+◌, ◌-◌, get_or, sym, ap, ◌∙◌, arith}
 use Rattle.supplier.proofs.Rings.{unrolled-near, unrolled-round}
 use Rattle.supplier.proofs.book.Book.order.Goals as goal
 

@@ -1,4 +1,4 @@
-use Rattle.std.proofs.Common.{◌≡◌, arith}
+use Rattle.std.proofs.Common.{arith}
 use Rattle.figures.proofs.Totals.{window_more}
 use Rattle.supplier.specs.Books.{orders_of}
 use Rattle.supplier.proofs.book.Book.sum.Goals as goal

@@ -30,5 +30,5 @@ returns-in-Some c =
     let l = c.args.self.now in
     let q = c.args.q in
     let b = c.in-Some.broken in
-    let e = ap Some c.fault-of.ensures ∙ finds_by l.number (for_days l.limits.bounds) l.days (orders_of l.book) q (Some b) c.in-Some.ensures c.if-self-eq-TERM.false in
-    record { value = e; plain = plainly l q (Some c.fault-of.result) e }
+    let e = ap Some c.fault_of.ensures ∙ finds_by l.number (for_days l.limits.bounds) l.days (orders_of l.book) q (Some b) c.in-Some.ensures c.if-self-eq-TERM.false in
+    record { value = e; plain = plainly l q (Some c.fault_of.result) e }

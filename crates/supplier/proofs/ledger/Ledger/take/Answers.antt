@@ -1,5 +1,5 @@
-use Rattle.std.proofs.Common.{◌≡◌, ℕ, ◌+◌, ◌≤◌, List, ◌∷◌, sym, refl, ap, ◌∙◌, subst, arith}
-use Rattle.figures.specs.Days.{for_days, horizon, most, window}
+use Rattle.std.proofs.Common.{ℕ, ◌+◌, ◌≤◌, sym, refl, subst, arith}
+use Rattle.figures.specs.Days.{for_days, most}
 use Rattle.supplier.specs.declared.ledger.Ledger.{Ledger}
 use Rattle.supplier.specs.Orders.{Before, Fits}
 use Rattle.supplier.specs.Books.{orders_of}
@@ -13,16 +13,16 @@ few l q fits =
     let h = l.limits.high 0 in
     omega arith
 
-pub invariant-of-self : goal.invariant-of-self
-invariant-of-self c =
+pub invariant_of-self : goal.invariant_of-self
+invariant_of-self c =
     let l = c.args.self.now in
-    let p = c.in-default.ensures.plain in
+    let p = c.in_default.ensures.plain in
     let e = taken-book c.args.q (orders_of l.book) (orders_of c.take.new.self) c.take.result c.take.ensures.answer c.take.ensures.after (few l c.args.q p.1) in
-    (omega (arith, p.0), (subst (Before (l.days + 1)) (sym e) (before-entered l.days (orders_of l.book) c.args.q l.before), tt))
+    record { until = omega (arith, p.0); before = subst (Before (l.days + 1)) (sym e) (before-entered l.days (orders_of l.book) c.args.q l.before) }
 
 pub returns : goal.returns
 returns c =
     let l = c.args.self.now in
-    let p = c.in-default.ensures.plain in
+    let p = c.in_default.ensures.plain in
     let e = taken-book c.args.q (orders_of l.book) (orders_of c.take.new.self) c.take.result c.take.ensures.answer c.take.ensures.after (few l c.args.q p.1) in
-    (sym c.in-default.ensures.value, record { number = refl; bounds = refl; days = refl; book = e })
+    (sym c.in_default.ensures.value, record { number = refl; bounds = refl; days = refl; book = e })

@@ -12,13 +12,13 @@ returns g c =
       stays = did.stays;
       answers = did.answers;
       lays = did.lays;
-      counted = (c.saturating-add-self.ensures, c.saturating-add-self-2.ensures);
+      counted = (c.saturating_add-self.ensures, c.saturating_add-self-2.ensures);
       balanced = λ v balanced.
           let a = did.answers v in
           let steady = (g.met.S.Supplier.sound s.supplier v).service in
           let d = c.in-ok-delivery.delivery in
           let n = balanced_day (g.S.Supplier.meaning s.supplier).service after c.args.q d s.ordered s.delivered steady a.0 a.1 a.2 balanced in
-          let o : c.saturating-add-self.result ≡ s.ordered + c.args.q = omega (arith, n.ordered_fits, c.saturating-add-self.ensures) in
-          let w : c.saturating-add-self-2.result ≡ s.delivered + d = omega (arith, n.delivered_fits, c.saturating-add-self-2.ensures) in
-          subst (λ x. Balanced after x c.saturating-add-self-2.result) (sym o) (subst (λ x. Balanced after (s.ordered + c.args.q) x) (sym w) n.balanced);
+          let o : c.saturating_add-self.result ≡ s.ordered + c.args.q = omega (arith, n.ordered_fits, c.saturating_add-self.ensures) in
+          let w : c.saturating_add-self-2.result ≡ s.delivered + d = omega (arith, n.delivered_fits, c.saturating_add-self-2.ensures) in
+          subst (λ x. Balanced after x c.saturating_add-self-2.result) (sym o) (subst (λ x. Balanced after (s.ordered + c.args.q) x) (sym w) n.balanced);
     }

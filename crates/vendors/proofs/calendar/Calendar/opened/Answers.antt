@@ -9,7 +9,7 @@ use Rattle.vendors.proofs.calendar.Calendar.opened.Goals as goal
 pub returns : goal.returns
 returns c =
     let e = c.new-ledger.ensures in
-    let w = c.longest-wait.ensures.wait in
+    let w = c.longest_wait.ensures.wait in
     record {
       meant = λ i. vended kind.Calendar (e.numbered i) (c.args.travel + w i) (weekly c.args.weekly) (e.unused i) (e.empty i) 0;
       masked = refl;

@@ -3,8 +3,8 @@ use Rattle.vendors.specs.Pipelines.{opened}
 use Rattle.supplier.proofs.Naming.{named-kept}
 use Rattle.vendors.proofs.pipeline.Pipeline.new.Goals as goal
 
-pub overflow-cast-lead : goal.overflow-cast-lead
-overflow-cast-lead c =
+pub overflow_cast-lead : goal.overflow_cast-lead
+overflow_cast-lead c =
     let l = c.in-None.ensures.0 1 (omega arith) (omega arith) in
     omega arith
 
@@ -17,7 +17,7 @@ opened-requires c =
 pub returns-in-None : goal.returns-in-None
 returns-in-None c =
     let p = c.in-None.ensures in
-    let n = c.kept-number.ensures ∙ named-kept c.args.number (p.0 0 (omega arith) (omega arith)) in
+    let n = c.kept_number.ensures ∙ named-kept c.args.number (p.0 0 (omega arith) (omega arith)) in
     record {
       kept = λ _. subst (λ m. opened m c.args.lead c.args.max c.opened.result) n c.opened.ensures;
       refused = λ no. absurd (no p);

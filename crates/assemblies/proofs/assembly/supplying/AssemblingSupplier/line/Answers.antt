@@ -10,8 +10,8 @@ use Rattle.assemblies.specs.Scaled.{nth_left, nth_right}
 use Rattle.assemblies.proofs.Kitted.{waits_small}
 use Rattle.assemblies.proofs.assembly.supplying.AssemblingSupplier.line.Goals as goal
 
-pub returns-then-i-ge-MOST-LINES : goal.returns-then-i-ge-MOST-LINES
-returns-then-i-ge-MOST-LINES g c v = sym (topped-cut _ _ c.args.i (omega arith))
+pub returns-then-i-ge-MOST_LINES : goal.returns-then-i-ge-MOST_LINES
+returns-then-i-ge-MOST_LINES g c v = sym (topped-cut _ _ c.args.i (omega arith))
 
 pub returns-then-i-left : goal.returns-then-i-left
 returns-then-i-left g c v =
@@ -46,8 +46,8 @@ returns g c v =
     let b = waits_small own.right late (max early late) own.orders own.right_few (let x = ls.near in let y = rs.near in omega arith) in
     let l = v.left_waits in
     let r = v.right_waits in
-    let h : c.saturating-add-held.result ≡ own.left * span early (max early late) orders + own.right * span late (max early late) orders =
-    let e = c.saturating-add-held.ensures in let x = c.waiting-waiting.ensures.left in let y = c.waiting-waiting.ensures.right in omega arith in
-    let o : c.unwrap-or-order.result ≡ get_or orders 0 0 = c.unwrap-or-order.ensures ∙ ap (λ x. unwrap_or x 0) c.due.ensures in
+    let h : c.saturating_add-held.result ≡ own.left * span early (max early late) orders + own.right * span late (max early late) orders =
+    let e = c.saturating_add-held.ensures in let x = c.waiting-waiting.ensures.left in let y = c.waiting-waiting.ensures.right in omega arith in
+    let o : c.unwrap_or-order.result ≡ get_or orders 0 0 = c.unwrap_or-order.ensures ∙ ap (λ x. unwrap_or x 0) c.due.ensures in
     (λ i. Some (record { number = own.number; kind = kind.Assembly; order = o i; delivery = own.delivered; held = h i }))
     ∙ topped-first (assembly_line own.number own.left own.right early late orders own.delivered) (left.sheet ++ right.sheet) c.args.i (omega arith)

@@ -67,11 +67,11 @@ returns-in-Ok g c =
       answers = λ v.
           let p = did.answers v.below_ok in
           let k = p.2 in
-          let e : c.unwrap-or-due.result ≡ due (early + own.delay) book q =
-          c.unwrap-or-due.ensures ∙ ap (λ o. unwrap_or o 0) c.due.ensures ∙ near_value own.delay (due own.delay row received) own.brief
+          let e : c.unwrap_or-due.result ≡ due (early + own.delay) book q =
+          c.unwrap_or-due.ensures ∙ ap (λ o. unwrap_or o 0) c.due.ensures ∙ near_value own.delay (due own.delay row received) own.brief
           ∙ arrives early own.delay received q row book p.1 v.coming in
           let line = delay_line own.number own.delay early (q ∷ book) (get_or (q ∷ book) (early + own.delay) 0) in
-          let step = delay_line_step own.number own.delay early after.service.quote q c.unwrap-or-due.result book after.service.book v.near k.quote k.book e in (
+          let step = delay_line_step own.number own.delay early after.service.quote q c.unwrap_or-due.result book after.service.book v.near k.quote k.book e in (
             ap carries p.0,
             e,
             record { quote = ap (λ n. n + own.delay) k.quote; limit = k.limit; days = k.days; book = k.book },

@@ -31,8 +31,8 @@ returns-in-Ok g c =
     subst (Plain l.number (bound_of own) l.days (book_of own) q) t.0 (finds_plain l.number (bound_of own) l.days (book_of own) q l.until) in
     let little : q ≤ most =
     let a : q + 0 ≤ bound_of own 1 = plain.1 1 (omega arith) (omega arith) in let h = l.limits.high 0 in omega arith in
-    let e : c.unwrap-or-due.result ≡ due own.quote (book_of own) q =
-    c.unwrap-or-due.ensures ∙ ap (λ o. unwrap_or o 0) c.due.ensures ∙ near_value own.quote (due own.quote (book_of own) q) own.near in
+    let e : c.unwrap_or-due.result ≡ due own.quote (book_of own) q =
+    c.unwrap_or-due.ensures ∙ ap (λ o. unwrap_or o 0) c.due.ensures ∙ near_value own.quote (due own.quote (book_of own) q) own.near in
     let number = ap (λ x. x.number) rs.ledger ∙ t.1.number in
     let book = ap (λ x. orders_of x.book) rs.ledger ∙ t.1.book in
     let took = λ (v : Tied (g.S.Supplier.valid s.below) m own).
@@ -43,7 +43,7 @@ returns-in-Ok g c =
       stays = λ v.
           let k = took v in
           let r = k.0 ∙ ap (λ b. due m.service.quote b q) (sym v.same) in
-          tied_step (g.S.Supplier.valid s.below) (g.S.Supplier.valid c.send-received.new.below) m after own _ own' q c.send-received.result c.unwrap-or-due.result
+          tied_step (g.S.Supplier.valid s.below) (g.S.Supplier.valid c.send-received.new.below) m after own _ own' q c.send-received.result c.unwrap_or-due.result
           v (did.stays v.below_ok) k.1 t.1 refl refl refl refl refl rs r e plain.1 little (orders-small l.book);
       answers = λ v.
           let k = took v in
