@@ -4,5 +4,5 @@ mod kits;
 mod parts;
 
 pub use assembly::Assembling;
-pub use assembly::making::{ASSEMBLY_RANGES, Assembly};
+pub use assembly::making::{Assembly, RANGES as ASSEMBLY_RANGES};
 pub use parts::Parts;

@@ -3,4 +3,4 @@ mod delay;
 mod transit;
 
 pub use delay::Delaying;
-pub use delay::making::{DELAY_RANGES, Delay};
+pub use delay::making::{Delay, RANGES as DELAY_RANGES};

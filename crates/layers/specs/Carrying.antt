@@ -1,5 +1,5 @@
 -- A fault that is carried from below.
-use Rattle.std.specs.Prelude.{ℕ, ◌+◌, min, Option}
+use Rattle.std.specs.Prelude.{◌+◌, min, Option}
 use Rattle.std.specs.Option.{option_map}
 use Rattle.supplier.specs.declared.fault.Fault.{Fault}
 

@@ -1,5 +1,5 @@
 -- The table of an idle layer holds nothing.
-use Rattle.std.specs.Prelude.{◌≡◌, ℕ, zero, suc, ◌<◌, ◌≤◌, get_or, refl}
+use Rattle.std.specs.Prelude.{◌≡◌, ℕ, zero, suc, ◌≤◌}
 use Rattle.std.proofs.Common.{arith}
 use Rattle.figures.specs.Days.{horizon, for_days}
 use Rattle.layers.specs.declared.idle.Idle.{Idle}

@@ -1,5 +1,5 @@
 -- A layer's sheet: its line, then the lines below.
-use Rattle.std.specs.Prelude.{ℕ, ◌+◌, List, ◌∷◌, take}
+use Rattle.std.specs.Prelude.{◌+◌, List, ◌∷◌, take}
 use Rattle.supplier.specs.declared.line.Line.{Line}
 use Rattle.supplier.specs.Shelves.{Placed}
 

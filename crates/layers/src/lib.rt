@@ -1,4 +1,6 @@
 // What all layers share: layers are suppliers that stand over other suppliers.
+#![tactic(auto)]
+
 mod carrying;
 mod idle;
 mod layer;

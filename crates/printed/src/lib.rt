@@ -1,4 +1,6 @@
 // The printed form of sheets and refusals, byte for byte.
+#![tactic(auto)]
+
 mod texts;
 
 pub use texts::{DayLine, RefusedDay};

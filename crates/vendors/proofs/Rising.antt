@@ -1,9 +1,9 @@
 -- Limits that rise with each period begun are a table of limits.
-use Rattle.std.proofs.Common.{◌≡◌, ℕ, zero, suc, ◌+◌, ◌-◌, ◌*◌, ◌/◌, ◌<◌, ◌≤◌, List, length, get_or, sym, ap, ◌∙◌, ⊎_elim, mul-le-mul_left, div-mul-le_self, arith}
+use Rattle.std.proofs.Common.{◌≡◌, ℕ, suc, ◌+◌, ◌-◌, ◌*◌, ◌/◌, ◌<◌, ◌≤◌, List, length, get_or, ap, ⊎_elim, mul-le-mul_left, div-mul-le_self, arith}
 use Rattle.std.proofs.lemmas.Nat.{le-div}
 use Rattle.std.proofs.lemmas.List.{get_or_past}
 use Rattle.std.proofs.lemmas.Bool.{cases_lt}
-use Rattle.figures.specs.Days.{for_days, horizon, most}
+use Rattle.figures.specs.Days.{horizon, most}
 use Rattle.supplier.specs.Limits.{High, Grows}
 use Rattle.vendors.specs.Periods.{periods, Rises}
 

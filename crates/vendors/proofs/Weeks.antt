@@ -1,12 +1,12 @@
 -- The waits of a weekly calendar, by one test that is computed for every mask and every day of the week.
-use Rattle.std.proofs.Common.{◌≡◌, ℕ, zero, suc, ◌+◌, ◌-◌, ◌*◌, ◌/◌, ◌%◌, ◌^◌, ◌<◌, ◌≤◌, max, Bool, true, false, cond, ◌&&◌, eqb, Some, None, Option, unwrap_or, sym, refl, ap, ◌∙◌, subst, ⊎_elim, mod-lt, mod-eq_of_lt, add-sub_cancel, arith}
+use Rattle.std.proofs.Common.{◌≡◌, ℕ, zero, suc, ◌+◌, ◌-◌, ◌*◌, ◌/◌, ◌%◌, ◌^◌, ◌<◌, ◌≤◌, Bool, true, false, ◌&&◌, eqb, Some, None, Option, unwrap_or, sym, refl, ap, ◌∙◌, subst, ⊎_elim, mod-lt, mod-eq_of_lt, add-sub_cancel, arith}
 use native.Mathlib.Nat.{mod-add-mod}
 use lib.Bits.{bit_and, bit_or}
 use lib.Count.{ones, ones_in, count_trailing_zeros}
 use Rattle.std.proofs.lemmas.Bool.{and_parts, both_ways, eqb-true, cases_eq, cases_lt, cases_order}
 use Rattle.figures.specs.Least.{least}
 use Rattle.figures.proofs.Least.{Found, least_shows}
-use Rattle.vendors.specs.Departures.{week, bit, departs, departures, count, wait, longest, greatest, Leaves, Timely}
+use Rattle.vendors.specs.Departures.{week, bit, departs, departures, wait, longest, greatest, Leaves, Timely}
 
 -- every number below n passes
 abbrev pub every : (ℕ → Bool) → ℕ → Bool

@@ -1,5 +1,5 @@
 -- Limits by periods of days.
-use Rattle.std.specs.Prelude.{◌≡◌, ℕ, ◌+◌, ◌-◌, ◌*◌, ◌/◌, ◌<◌, ◌≤◌, List, get_or}
+use Rattle.std.specs.Prelude.{◌≡◌, ℕ, ◌+◌, ◌-◌, ◌*◌, ◌/◌, ◌≤◌, List}
 use Rattle.figures.specs.Days.{for_days, horizon}
 
 -- the periods that k days begin: k over the period, rounded up

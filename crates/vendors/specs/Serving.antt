@@ -1,22 +1,20 @@
 -- A vendor's inside keeps the supplier's meaning, whatever its kind and its limit.
-use Rattle.std.specs.Prelude.{◌≡◌, ℕ, zero, suc, ◌+◌, ◌*◌, ◌/◌, ◌<◌, ◌≤◌, List, [], ◌∷◌, length, get_or, take, Some, None, Ok, Err, Option, Result, refl}
+use Rattle.std.specs.Prelude.{◌≡◌, ℕ, ◌+◌, ◌*◌, ◌≤◌, List, [], ◌∷◌, Ok, Err, Result, refl}
 use Rattle.std.proofs.Common.{sym, ap, subst, ◌∙◌, add-zero, div-one, mul_comm, arith}
-use Rattle.std.proofs.lemmas.List.{take-take}
-use Rattle.figures.specs.Days.{for_days, horizon, most, total, window}
+use Rattle.figures.specs.Days.{for_days, horizon, most}
 use Rattle.figures.proofs.Totals.{window_front}
 use Rattle.supplier.specs.declared.fault.Fault.{Fault}
 use Rattle.supplier.specs.declared.line.Kind.{Kind}
-use Rattle.supplier.specs.Orders.{entered, due}
+use Rattle.supplier.specs.Orders.{due}
 use Rattle.supplier.specs.Books.{orders_of}
-use Rattle.supplier.specs.Finders.{finds}
-use Rattle.supplier.specs.Meaning.{Meaning, Sound, Day}
+use Rattle.supplier.specs.Meaning.{Sound, Day}
 use Rattle.supplier.proofs.Windows.{limit-high, limit-grows}
 use Rattle.supplier.proofs.Finders.{finds_agree}
 use Rattle.supplier.proofs.Books.{orders-long}
 use Rattle.supplier.proofs.Services.{finder_steady}
 use Rattle.vendors.specs.declared.source.Source.{Source}
-use Rattle.vendors.specs.Periods.{periods, Rises}
-use Rattle.vendors.specs.Sources.{vendor_of, Served, Delivered, Same}
+use Rattle.vendors.specs.Periods.{Rises}
+use Rattle.vendors.specs.Sources.{vendor_of, Served}
 use Rattle.vendors.specs.Vended.{vended, vendor_line, vendor_layout}
 
 -- this function of the number of days tells a source's table

@@ -1,5 +1,5 @@
 -- The inside of a vendor: its line, and what a day does to it.
-use Rattle.std.specs.Prelude.{◌≡◌, ℕ, ◌+◌, Some, None, Ok, Err, Result}
+use Rattle.std.specs.Prelude.{◌≡◌, ℕ, Some, None, Ok, Err, Result}
 use Rattle.supplier.specs.declared.fault.Fault.{Fault}
 use Rattle.supplier.specs.declared.line.Kind.{Kind}
 use Rattle.supplier.specs.declared.line.Line.{Line}

@@ -18,7 +18,7 @@ pub type Assembly<L, R> = Layer<Assembling<L, R>, (L, R)>;
 const PARTS: Range = Range { low: 1, high: 100 };
 
 /// The ranges of the number and of the parts of both sides.
-pub const ASSEMBLY_RANGES: [Range; 3] = [NUMBERS, PARTS, PARTS];
+pub const RANGES: [Range; 3] = [NUMBERS, PARTS, PARTS];
 
 /// The figures of an assembly before the first day.
 fn unkitted(number: u16, left: u64, right: u64) -> Kits
@@ -47,7 +47,7 @@ impl<L: Supplier, R: Supplier> Assembling<L, R> {
         ensures asked { L.Supplier.valid left.now → R.Supplier.valid right.now
             → AssemblyAsked (L.Supplier.meaning left.now) (R.Supplier.meaning right.now) number a b result }
     {
-        if let Some(refusal) = range_refusal(&[number, a, b], &ASSEMBLY_RANGES) {
+        if let Some(refusal) = range_refusal(&[number, a, b], &RANGES) {
             return Some(refusal);
         }
         if left.days() != 0 {

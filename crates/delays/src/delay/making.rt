@@ -16,7 +16,7 @@ use supplier::{Book, Kind, NUMBERS, Supplier, kept_number};
 pub type Delay<S> = Layer<Delaying<S>, S>;
 
 /// The ranges of the number and the days of a delay.
-pub const DELAY_RANGES: [Range; 2] = [
+pub const RANGES: [Range; 2] = [
     NUMBERS,
     Range {
         low: 0,
@@ -44,7 +44,7 @@ impl<S: Supplier> Delaying<S> {
         ensures ranged { IfNone result (AllIn delay_ranges (number ∷ delay ∷ [])) }
         ensures asked { S.Supplier.valid below.now → DelayAsked (S.Supplier.meaning below.now) number delay result }
     {
-        if let Some(refusal) = range_refusal(&[number, delay], &DELAY_RANGES) {
+        if let Some(refusal) = range_refusal(&[number, delay], &RANGES) {
             return Some(refusal);
         }
         if below.days() != 0 {

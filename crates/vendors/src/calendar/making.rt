@@ -11,7 +11,7 @@ use figures::{Range, Refusal, range_refusal};
 use supplier::{Ledger, NUMBERS, kept_number};
 
 /// The ranges of the number, the mask, the travel and the weekly bound.
-pub const CALENDAR_RANGES: [Range; 4] = [
+pub const RANGES: [Range; 4] = [
     NUMBERS,
     Range { low: 1, high: 127 },
     Range { low: 0, high: 49 },
@@ -26,7 +26,7 @@ impl Calendar {
     pub fn question(number: u64, mask: u64, travel: u64, weekly: u64) -> Option<Refusal>
         ensures { Answered calendar_ranges (number ∷ mask ∷ travel ∷ weekly ∷ []) NoLaw result }
     {
-        range_refusal(&[number, mask, travel, weekly], &CALENDAR_RANGES)
+        range_refusal(&[number, mask, travel, weekly], &RANGES)
     }
 
     /// A vendor with these figures. Where the question refuses them, it ships every day, and its travel and its weekly bound are 0.

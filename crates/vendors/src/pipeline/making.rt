@@ -11,7 +11,7 @@ use figures::{HORIZON, Range, Refusal, range_refusal};
 use supplier::{Ledger, NUMBERS, kept_number};
 
 /// The ranges of the number, the lead and the most pieces of a day.
-pub const PIPELINE_RANGES: [Range; 3] = [
+pub const RANGES: [Range; 3] = [
     NUMBERS,
     Range {
         low: 0,
@@ -28,7 +28,7 @@ impl Pipeline {
     pub fn question(number: u64, lead: u64, max: u64) -> Option<Refusal>
         ensures { Answered pipeline_ranges (number ∷ lead ∷ max ∷ []) NoLaw result }
     {
-        range_refusal(&[number, lead, max], &PIPELINE_RANGES)
+        range_refusal(&[number, lead, max], &RANGES)
     }
 
     /// A vendor with these figures. Where the question refuses them, its lead and its most pieces of a day are 0.

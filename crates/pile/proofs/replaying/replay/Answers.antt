@@ -11,16 +11,16 @@ use Rattle.pile.proofs.Summits.{summits}
 use Rattle.pile.proofs.replaying.replay.Goals as goal
 
 -- there is room for every answer
-pub returns-in-err-push : goal.returns-in-err-push
-returns-in-err-push g c =
-    let full = c.in-err-push.ensures.full in
+pub returns-in_err-push : goal.returns-in_err-push
+returns-in_err-push g c =
+    let full = c.in_err-push.ensures.full in
     let i = c.loop-call.invariant.0 in
     let r = c.loop-call.invariant.1 in
     absurd (omega arith)
 
 pub loop-call-init : goal.loop-call-init
 loop-call-init g c =
-    let e = c.in-ok-events.ensures in
+    let e = c.in_ok-events.ensures in
     let m = g.S.Supplier.meaning c.args.supplier.now in
     let placed = g.S.Supplier.shelves c.args.supplier.now in
     let t = terms m (g.S.Supplier.layout c.args.supplier.now) placed in (
@@ -43,7 +43,7 @@ loop-call-preserved g c =
     let i = c.loop-call.call-index in
     let l : i < length calls = omega arith in
     let did = c.answer.ensures in
-    let pushed = c.in-ok-push.ensures in
+    let pushed = c.in_ok-push.ensures in
     let es = vec_items c.loop-call.events in
     let e = c.answer.result in (
       let x = pushed.len in let y = inv.0 in omega arith,

@@ -17,26 +17,26 @@ returns-in_default c =
     let e = c.loop-i.invariant.0 in
     (inl (record { before = take c.loop-i.i c.loop-i.figures; good = p.0; some = p.1; due = omega arith; here = omega arith; written = p.2 }), refl)
 
-pub returns-in-err-figures : goal.returns-in-err-figures
-returns-in-err-figures c =
+pub returns-in_err-figures : goal.returns-in_err-figures
+returns-in_err-figures c =
     let before = take c.loop-i.i c.loop-i.figures in
     let ranges = c.args.ranges.now in
     let now = subst (Progress ranges c.args.text.now before) c.in-Some.is c.loop-i.invariant.1 in
     let l = length-take c.loop-i.i c.loop-i.figures in
     let e = c.loop-i.invariant.0 in
     let long : length before ≡ c.loop-i.i = omega arith in
-    let p = err_from_is_err_and c.from-residual.result c.from-residual.ensures.1 in
+    let p = err_from_is_err_and c.from_residual.result c.from_residual.ensures.1 in
     let place : ℕ → Place = λ n. record { «record» = c.args.record; field = n + 1 } in
-    let read = word_read c.cut.result.0.now (place c.loop-i.i) (get_or ranges c.loop-i.i missing) c.field.result _ c.field.ensures c.in-err-figures.ensures in
+    let read = word_read c.cut.result.0.now (place c.loop-i.i) (get_or ranges c.loop-i.i missing) c.field.result _ c.field.ensures c.in_err-figures.ensures in
     rw (p.1, p.2)
     (word_faulty ranges c.args.record c.args.text.now before c.cut.result.0.now c.in-Some.text.now c.cut.result.1 _ now.0 (omega arith) now.1
     c.cut.ensures.lacks c.cut.ensures.parts
-    (subst (λ n. ReadPart c.cut.result.0.now (place n) (get_or ranges n missing) (Err c.in-err-figures.field-0.0)) (sym long) read))
+    (subst (λ n. ReadPart c.cut.result.0.now (place n) (get_or ranges n missing) (Err c.in_err-figures.field-0.0)) (sym long) read))
 
 pub loop-i-preserved : goal.loop-i-preserved
 loop-i-preserved c =
     let i = c.loop-i.i in
-    let n = c.in-ok-figures.field-0 in
+    let n = c.in_ok-figures.field-0 in
     let before = take i c.loop-i.figures in
     let ranges = c.args.ranges.now in
     let now = subst (Progress ranges c.args.text.now before) c.in-Some.is c.loop-i.invariant.1 in
@@ -44,7 +44,7 @@ loop-i-preserved c =
     let e = c.loop-i.invariant.0 in
     let long : length before ≡ i = omega arith in
     let h : i < length c.loop-i.figures = omega arith in
-    let read = word_read c.cut.result.0.now (record { «record» = c.args.record; field = i + 1 }) (get_or ranges i missing) c.field.result (Ok n) c.field.ensures c.in-ok-figures.ensures in (
+    let read = word_read c.cut.result.0.now (record { «record» = c.args.record; field = i + 1 }) (get_or ranges i missing) c.field.result (Ok n) c.field.ensures c.in_ok-figures.ensures in (
       length-set c.loop-i.figures i n ∙ e,
       subst (λ (fs : List ℕ). Progress ranges c.args.text.now fs c.cut.result.1) (sym (take_more_set c.loop-i.figures i n h))
           (progress_more ranges c.args.text.now before n now.0 (omega arith) c.cut.result.0.now c.in-Some.text.now c.cut.result.1 now.1 c.cut.ensures.parts read.0

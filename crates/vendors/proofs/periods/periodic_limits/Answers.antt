@@ -1,6 +1,6 @@
 use Rattle.std.proofs.Common.{◌≡◌, ℕ, zero, suc, ◌+◌, ◌*◌, ◌/◌, ◌<◌, ◌≤◌, ◌≢◌, List, length, get_or, ap, ◌∙◌, mul-le-mul_left, arith, length-set, get_or-set_other, get_or-set_same, below_more}
 use Rattle.figures.specs.Days.{horizon, most}
-use Rattle.vendors.specs.Periods.{periods, Rises}
+use Rattle.vendors.specs.Periods.{Rises}
 use Rattle.vendors.proofs.Rising.{periods_grow, periods_next, rises_high, rises_grow}
 use Rattle.vendors.proofs.periods.periodic_limits.Goals as goal
 

@@ -1,4 +1,4 @@
-use Rattle.std.proofs.Common.{ℕ, ◌+◌, refl, arith}
+use Rattle.std.proofs.Common.{◌+◌, refl, arith}
 use Rattle.figures.specs.Days.{horizon}
 use Rattle.figures.proofs.Totals.{zeros_get}
 use Rattle.layers.proofs.idle.Idle.new.Goals as goal

@@ -1,4 +1,4 @@
-use Rattle.std.proofs.Common.{◌≡◌, ℕ, List, [], ◌∷◌, ◌++◌, codes, decimal, subst}
+use Rattle.std.proofs.Common.{ℕ, List, [], ◌∷◌, ◌++◌, codes, decimal, subst}
 use Rattle.std.specs.Fmt.{HasWritten}
 use Rattle.printed.specs.Texts.{spaced}
 use Rattle.printed.proofs.Spacing.{spaced-push}

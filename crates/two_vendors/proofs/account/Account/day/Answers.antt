@@ -6,7 +6,7 @@ use Rattle.two_vendors.proofs.account.Account.day.Goals as goal
 pub returns : goal.returns
 returns g c =
     let s = c.args.self.now in
-    let did = c.in-ok-delivery.ensures in
+    let did = c.in_ok-delivery.ensures in
     let after = (g.S.Supplier.meaning c.day.new.self).service in
     record {
       stays = did.stays;
@@ -16,7 +16,7 @@ returns g c =
       balanced = λ v balanced.
           let a = did.answers v in
           let steady = (g.met.S.Supplier.sound s.supplier v).service in
-          let d = c.in-ok-delivery.delivery in
+          let d = c.in_ok-delivery.delivery in
           let n = balanced_day (g.S.Supplier.meaning s.supplier).service after c.args.q d s.ordered s.delivered steady a.0 a.1 a.2 balanced in
           let o : c.saturating_add-self.result ≡ s.ordered + c.args.q = omega (arith, n.ordered_fits, c.saturating_add-self.ensures) in
           let w : c.saturating_add-self-2.result ≡ s.delivered + d = omega (arith, n.delivered_fits, c.saturating_add-self-2.ensures) in

@@ -1,4 +1,4 @@
-use Rattle.std.proofs.Common.{◌≡◌, ◌+◌, ◌≤◌, sym, refl, subst}
+use Rattle.std.proofs.Common.{◌+◌, ◌≤◌, sym, refl, subst}
 use Rattle.vendors.proofs.Weeks.{leaves-timely}
 use Rattle.vendors.proofs.calendar.Calendar.arrival.Goals as goal
 

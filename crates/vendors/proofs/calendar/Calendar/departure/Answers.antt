@@ -1,4 +1,4 @@
-use Rattle.std.proofs.Common.{◌+◌, sym, ap, subst, arith}
+use Rattle.std.proofs.Common.{◌+◌, sym, subst, arith}
 use Rattle.vendors.specs.Departures.{Leaves}
 use Rattle.vendors.proofs.Weeks.{leaves_after}
 use Rattle.vendors.proofs.calendar.Calendar.departure.Goals as goal

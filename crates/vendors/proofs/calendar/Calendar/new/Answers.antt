@@ -1,4 +1,4 @@
-use Rattle.std.proofs.Common.{◌≡◌, ◌∙◌, subst, arith}
+use Rattle.std.proofs.Common.{◌∙◌, subst, arith}
 use Rattle.vendors.specs.Calendars.{Opened}
 use Rattle.supplier.proofs.Naming.{named-kept}
 use Rattle.vendors.proofs.calendar.Calendar.new.Goals as goal

@@ -1,4 +1,4 @@
-use Rattle.std.proofs.Common.{◌≡◌, ◌+◌, sym, refl, subst}
+use Rattle.std.proofs.Common.{◌+◌, sym, refl, subst}
 use Rattle.supplier.specs.declared.line.Kind.TheVariants as kind
 use Rattle.vendors.specs.Vended.{vended}
 use Rattle.vendors.specs.Calendars.{weekly}

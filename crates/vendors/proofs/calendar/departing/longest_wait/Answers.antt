@@ -1,4 +1,4 @@
-use Rattle.std.proofs.Common.{◌≡◌, ℕ, ◌+◌, max, ap, ◌∙◌, add-one, arith}
+use Rattle.std.proofs.Common.{◌≡◌, ◌+◌, max, ap, ◌∙◌, add-one, arith}
 use Rattle.vendors.specs.Departures.{week, wait, longest, greatest}
 use Rattle.vendors.proofs.calendar.departing.longest_wait.Goals as goal
 

@@ -1,4 +1,4 @@
-use Rattle.std.proofs.Common.{◌≡◌, ◌∙◌, subst, arith}
+use Rattle.std.proofs.Common.{◌∙◌, subst, arith}
 use Rattle.vendors.specs.Pipelines.{opened}
 use Rattle.supplier.proofs.Naming.{named-kept}
 use Rattle.vendors.proofs.pipeline.Pipeline.new.Goals as goal
