@@ -1,5 +1,5 @@
 -- What an assembly has received is what is in the kits that it has handed on and what waits.
-use Rattle.std.proofs.Common.{◌≡◌, ℕ, ◌+◌, ◌*◌, ◌≤◌, List, [], ◌∷◌, get_or, sym, ap, mul-zero, mul-add, arith}
+use Rattle.std.proofs.Common.{◌≡◌, ℕ, ◌*◌, ◌≤◌, List, [], ◌∷◌, get_or, sym, ap, mul-zero, mul-add, arith}
 use Rattle.figures.specs.Days.{horizon, span}
 use Rattle.supplier.specs.Orders.{recent, delivered}
 use Rattle.layers.proofs.Conserving.{between}

@@ -1,7 +1,7 @@
 -- The parts that wait at an assembly, and what a day does to them.
-use Rattle.std.proofs.Common.{◌≡◌, ℕ, zero, suc, ◌+◌, ◌-◌, ◌*◌, ◌^◌, ◌<◌, ◌≤◌, min, max, List, [], ◌∷◌, get_or, take, drop, Option, unwrap_or, sym, refl, ap, ◌∙◌, subst, mul-le-mul, mul-le-mul_left, mul-zero, mul-add, arith}
+use Rattle.std.proofs.Common.{◌≡◌, ℕ, zero, suc, ◌+◌, ◌-◌, ◌*◌, ◌^◌, ◌<◌, ◌≤◌, min, max, List, ◌∷◌, get_or, drop, Option, unwrap_or, sym, ap, ◌∙◌, subst, mul-le-mul, mul-le-mul_left, mul-zero, mul-add, arith}
 use Rattle.std.proofs.lemmas.List.{get_or-drop}
-use Rattle.figures.specs.Days.{horizon, most, total, window, span}
+use Rattle.figures.specs.Days.{horizon, most, span}
 use Rattle.figures.proofs.Totals.{window-small, span-pushed, span_front, zeros_total}
 use Rattle.supplier.specs.declared.book.Book.{Book}
 use Rattle.supplier.specs.declared.line.Kind.TheVariants as kind

@@ -1,11 +1,11 @@
 -- What an assembly means: a function of what lies below it on the left and on the right.
-use Rattle.std.specs.Prelude.{◌≡◌, ℕ, ◌+◌, ◌*◌, ◌/◌, ◌<◌, ◌≤◌, min, max, cond, List, ◌∷◌, ◌++◌, map, length, Some, None, Option, ◌==◌, nat_lt, slice_index}
-use Rattle.figures.specs.Days.{horizon, most, span}
+use Rattle.std.specs.Prelude.{◌≡◌, ℕ, ◌+◌, ◌*◌, ◌/◌, min, max, cond, List, ◌++◌, map, Some, None, Option, ◌==◌, nat_lt, slice_index}
+use Rattle.figures.specs.Days.{span}
 use Rattle.supplier.specs.declared.fault.Cause.TheVariants.{TermSpent, OverDay}
 use Rattle.supplier.specs.declared.fault.Fault.{Fault}
 use Rattle.supplier.specs.declared.line.Kind.TheVariants as kind
 use Rattle.supplier.specs.declared.line.Line.{Line}
-use Rattle.supplier.specs.Orders.{term, Before}
+use Rattle.supplier.specs.Orders.{term}
 use Rattle.supplier.specs.Books.{orders_of}
 use Rattle.supplier.specs.Finders.{fault}
 use Rattle.supplier.specs.Meaning.{Service, Meaning, Layout}

@@ -1,17 +1,17 @@
 -- An assembly's refusals keep the supplier's law.
-use Rattle.std.specs.Prelude.{◌≡◌, ℕ, zero, suc, ◌+◌, ◌*◌, ◌/◌, ◌<◌, ◌≤◌, min, max, Bool, true, false, cond, List, [], ◌∷◌, Some, None, Option, ◌==◌, ◌≢◌, nat_lt, refl}
-use Rattle.std.proofs.Common.{sym, ap, subst, ◌∙◌, ⊎_elim, mul-one, mul_comm, mul-le-mul_left, arith}
+use Rattle.std.specs.Prelude.{◌≡◌, ℕ, ◌+◌, ◌*◌, ◌<◌, ◌≤◌, min, Bool, true, false, cond, List, ◌∷◌, Some, None, Option, ◌==◌, ◌≢◌, nat_lt, refl}
+use Rattle.std.proofs.Common.{sym, ap, ◌∙◌, ⊎_elim, mul-one, mul_comm, mul-le-mul_left, arith}
 use Rattle.std.proofs.lemmas.Bool.{cases_lt, eqb-true, eqb-false, ne_eqb, ltb-true, ltb-false, le-ltb, cond-false}
-use Rattle.figures.specs.Days.{horizon, most, window}
+use Rattle.figures.specs.Days.{window}
 use Rattle.supplier.specs.declared.fault.Cause.{Cause}
 use Rattle.supplier.specs.declared.fault.Cause.TheVariants.{TermSpent, OverDay, OverWindow}
 use Rattle.supplier.specs.declared.fault.Fault.{Fault}
-use Rattle.supplier.specs.Orders.{term, Fits, Breaks}
+use Rattle.supplier.specs.Orders.{term}
 use Rattle.supplier.specs.Finders.{fault}
-use Rattle.supplier.specs.Meaning.{Service, Steady, Refused, Caused}
+use Rattle.supplier.specs.Meaning.{Service, Refused, Caused}
 use Rattle.layers.specs.Carrying.{carried, carries}
 use Rattle.assemblies.specs.Assemblies.{times, shared, either, kits_refusal, assembled_service}
-use Rattle.assemblies.specs.Scaling.{window-times, shared-left, shared-right, shared-above}
+use Rattle.assemblies.specs.Scaling.{window-times, shared-above}
 
 -- one side of an assembly with this limit and these orders
 pub record Part (c : ℕ) (limit : ℕ → ℕ) (days : ℕ) (orders : List ℕ) (s : Service) : Type 0 where

@@ -1,9 +1,8 @@
 -- The lines and the shelves of both sides of an assembly.
-use Rattle.std.specs.Prelude.{◌≡◌, ℕ, zero, suc, ◌+◌, ◌-◌, ◌*◌, ◌<◌, ◌≤◌, min, List, [], ◌∷◌, ◌++◌, map, length, get_or, take, Some, None, Option, refl}
-use Rattle.std.proofs.Common.{sym, ap, subst, ◌∙◌, ⊎_elim, zero-le, mul_assoc, mul_comm, mul-zero, mul-le-mul_left, le_trans, arith}
-use Rattle.std.specs.List.{slice_get, AllByRecursion as All}
-use Rattle.std.proofs.lemmas.List.{length-append, map-append}
-use Rattle.std.proofs.ByRecursion.{All-append}
+use Rattle.std.specs.Prelude.{◌≡◌, ℕ, zero, suc, ◌+◌, ◌-◌, ◌*◌, ◌<◌, ◌≤◌, List, [], ◌∷◌, ◌++◌, map, length, Some, None, Option, refl}
+use Rattle.std.proofs.Common.{sym, ap, subst, ◌∙◌, ⊎_elim, mul_assoc, mul_comm, mul-le-mul_left, arith}
+use Rattle.std.specs.List.{slice_get, AllByRecursion}
+use Rattle.std.proofs.lemmas.List.{map-append}
 use Rattle.std.proofs.lemmas.Option.{slice_get_past}
 use Rattle.std.proofs.lemmas.Bool.{cases_lt}
 use Rattle.figures.specs.Days.{horizon, span}
@@ -64,7 +63,7 @@ shelf-scaled m t c places same under line p s = record {
 pub shelves-scaled : (m t : Meaning) (c places : ℕ) → m.service.book ≡ times c t.service.book →
     ((k : ℕ) → k ≤ horizon → c * allowed t.service.limit k ≤ allowed m.service.limit k) →
     ((i : ℕ) → i < length m.sheet → i + places < most_lines → slice_get t.sheet (i + places) ≡ slice_get m.sheet i) →
-    (ps : List Placed) → All (Shelved m) ps → All (Shelved t) (map (scaled c places) ps)
+    (ps : List Placed) → AllByRecursion (Shelved m) ps → AllByRecursion (Shelved t) (map (scaled c places) ps)
 shelves-scaled m t c places same under line [] all = tt
 shelves-scaled m t c places same under line (p ∷ ps) all =
     (shelf-scaled m t c places same under line p all.0, shelves-scaled m t c places same under line ps all.1)

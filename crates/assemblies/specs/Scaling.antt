@@ -1,11 +1,10 @@
 -- Orders that are so many times as large: their windows, their limits and their shelves.
-use Rattle.std.specs.Prelude.{◌≡◌, ℕ, zero, suc, ◌+◌, ◌-◌, ◌*◌, ◌/◌, ◌<◌, ◌≤◌, min, List, [], ◌∷◌, ◌++◌, map, length, take, drop, replicate, slice_index, slice_range, refl}
-use Rattle.std.proofs.Common.{sym, ap, subst, ◌∙◌, zero-le, mul-zero, mul-add, mul_assoc, mul_comm, div-mul-le_self, mul-le-mul_left, arith}
+use Rattle.std.specs.Prelude.{◌≡◌, ℕ, zero, suc, ◌-◌, ◌*◌, ◌/◌, ◌≤◌, List, [], ◌∷◌, take, drop, replicate, slice_index, slice_range, refl}
+use Rattle.std.proofs.Common.{sym, ap, ◌∙◌, mul-zero, mul-add, mul_comm, div-mul-le_self, mul-le-mul_left, arith}
 use Rattle.std.proofs.lemmas.Nat.{le-div}
 use Rattle.std.proofs.lemmas.List.{take-map, drop-map}
 use Rattle.figures.specs.Days.{horizon, total, window, span}
-use Rattle.supplier.specs.Orders.{entered, Fits, Breaks}
-use Rattle.supplier.specs.Meaning.{Meaning}
+use Rattle.supplier.specs.Orders.{entered}
 use Rattle.assemblies.specs.Assemblies.{times, shared}
 
 total-times : (c : ℕ) (xs : List ℕ) → total (times c xs) ≡ c * total xs

@@ -1,4 +1,6 @@
 // Assemblies of any two suppliers.
+#![tactic(auto)]
+
 mod assembly;
 mod kits;
 mod parts;

@@ -1,5 +1,5 @@
 -- What a delay has received is what it has handed on and what is in transit.
-use Rattle.std.proofs.Common.{◌≡◌, ℕ, ◌+◌, ◌≤◌, arith}
+use Rattle.std.proofs.Common.{◌≡◌, ℕ, ◌+◌, arith}
 use Rattle.figures.specs.Days.{window}
 use Rattle.supplier.specs.Books.{orders_of}
 use Rattle.supplier.specs.Meaning.{Meaning}

@@ -1,4 +1,6 @@
 // Delays over any supplier.
+#![tactic(auto)]
+
 mod delay;
 mod transit;
 

@@ -1,6 +1,6 @@
 -- A layer's line before the lines below, and the shelves below seen from the layer.
 use Rattle.std.proofs.Common.{◌≡◌, ℕ, zero, suc, ◌+◌, ◌-◌, ◌<◌, ◌≤◌, min, List, [], ◌∷◌, map, length, take, Some, None, Option, sym, refl, ap, ◌∙◌, subst, le_trans, mul-le-mul_left, arith}
-use Rattle.std.specs.List.{slice_get, AllByRecursion as All}
+use Rattle.std.specs.List.{slice_get, AllByRecursion}
 use Rattle.std.specs.Option.{option_map}
 use Rattle.std.proofs.lemmas.List.{length-take}
 use Rattle.std.proofs.lemmas.Option.{slice_get_past}
@@ -53,7 +53,7 @@ shelf-later m t line same under sheet p s = record {
 
 pub shelves-later : (m t : Meaning) (line : Line) → t.service.book ≡ m.service.book →
     ((k : ℕ) → k ≤ horizon → allowed t.service.limit k ≤ allowed m.service.limit k) →
-    t.sheet ≡ topped line m.sheet → (ps : List Placed) → All (Shelved m) ps → All (Shelved t) (map later ps)
+    t.sheet ≡ topped line m.sheet → (ps : List Placed) → AllByRecursion (Shelved m) ps → AllByRecursion (Shelved t) (map later ps)
 shelves-later m t line same under sheet [] all = tt
 shelves-later m t line same under sheet (p ∷ ps) all =
     (shelf-later m t line same under sheet p all.0, shelves-later m t line same under sheet ps all.1)

@@ -1,6 +1,6 @@
 -- Each call shows what the orders so far say, and leaves a supplier that has taken the orders then.
 use Rattle.std.proofs.Common.{◌≡◌, ℕ, zero, suc, ◌+◌, ◌-◌, ◌*◌, ◌<◌, ◌≤◌, List, [], ◌∷◌, length, get_or, take, drop, Some, None, Ok, Err, Option, Result, sym, refl, ap, ◌∙◌, subst, zero-le, mul-le-mul_left, arith}
-use Rattle.std.specs.List.{slice_get, AllByRecursion as All}
+use Rattle.std.specs.List.{slice_get, AllByRecursion}
 use Rattle.std.proofs.ByRecursion.{All-weaker}
 use Rattle.figures.specs.Days.{horizon, total, window, span}
 use Rattle.supplier.specs.declared.fault.Cause.{Cause}
@@ -59,7 +59,7 @@ module _ (t : Terms) (orders : List ℕ) (s : State) where
       }
 
 -- a new supplier has taken no order
-pub stands_new : (m : Meaning) (layout : Layout) (placed : List Placed) → Sound m → All (Shelved m) placed → m.service.days ≡ 0 →
+pub stands_new : (m : Meaning) (layout : Layout) (placed : List Placed) → Sound m → AllByRecursion (Shelved m) placed → m.service.days ≡ 0 →
     Stands (terms m layout placed) [] (state m placed)
 stands_new m layout placed sound shelved new =
     let book : m.service.book ≡ recent horizon [] =
@@ -81,7 +81,7 @@ stands_new m layout placed sound shelved new =
     none (suc j) (suc k) h = zero-le
 
 module _ (t : Terms) (orders : List ℕ) (s k : State) (v : Stands t orders s) (sound : Sound s.meaning) (sound' : Sound k.meaning)
-    (shelved' : All (Shelved k.meaning) k.shelves) (figures : figures_of k.shelves ≡ figures_of s.shelves) where
+    (shelved' : AllByRecursion (Shelved k.meaning) k.shelves) (figures : figures_of k.shelves ≡ figures_of s.shelves) where
   -- the refusal of an order, in the orders taken
   refusal_shown : (q : ℕ) → RefusedBy t.limit (length orders) orders q (s.meaning.service.refusal q)
   refusal_shown q =

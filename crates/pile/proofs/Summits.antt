@@ -1,6 +1,6 @@
 -- The climbing list of a stage's envelope is taken whole, and brings each shelf to its lowest point.
 use Rattle.std.proofs.Common.{◌≡◌, ℕ, zero, suc, ◌+◌, ◌-◌, ◌*◌, ◌<◌, ◌≤◌, List, [], ◌∷◌, map, length, get_or, take, drop, IfSome, Some, None, Ok, Err, Option, sym, refl, ap, ◌∙◌, subst, ⊎_elim, add-one, arith}
-use Rattle.std.specs.List.{AllByRecursion as All}
+use Rattle.std.specs.List.{AllByRecursion}
 use Rattle.std.proofs.lemmas.Bool.{cases_lt}
 use Rattle.std.proofs.ByRecursion.{All-weaker, All-map}
 use Rattle.envelope.specs.Climbs.{Climbs}
@@ -93,7 +93,7 @@ module _ (bound : ℕ → ℕ) (none : bound 0 ≡ 0) (grows : (k : ℕ) → k <
       -- from the n-th day of the climbing list on, each day is taken
       climbs : (c n : ℕ) (os : List ℕ) (es : List Event) (s z : State) → length os ≡ c → n + c ≤ horizon →
           ((k : ℕ) → k < c → get_or os k 0 ≡ bound (suc (n + k)) - bound (n + k)) → map asked es ≡ map call.Day os → History t (climb bound n) s es z →
-          All Took es × ((k : ℕ) → k ≤ c → taken (climb bound n) (take k es) ≡ climb bound (n + k))
+          AllByRecursion Took es × ((k : ℕ) → k ≤ c → taken (climb bound n) (take k es) ≡ climb bound (n + k))
       climbs c n [] [] s z long h steps e y = (tt, ended)
         where
           ended : (k : ℕ) → k ≤ c → taken (climb bound n) (take k []) ≡ climb bound (n + k)
@@ -147,7 +147,7 @@ module _ (bound : ℕ → ℕ) (none : bound 0 ≡ 0) (grows : (k : ℕ) → k <
 
 -- a new supplier with an envelope, over a whole list of calls
 summit : (m : Meaning) (layout : Layout) (placed : List Placed) (bound : ℕ → ℕ) (calls : List Call) (events : List Event) (k : State) →
-    Sound m → All (Shelved m) placed → Enveloped m placed bound → Run (terms m layout placed) [] (state m placed) calls events k →
+    Sound m → AllByRecursion (Shelved m) placed → Enveloped m placed bound → Run (terms m layout placed) [] (state m placed) calls events k →
     Summit (terms m layout placed) bound calls events
 summit m layout placed bound calls events k sound shelved v run = record {
   own = v.own;
@@ -174,14 +174,14 @@ summit m layout placed bound calls events k sound shelved v run = record {
         subst (λ n. m.service.limit (suc k) ≤ m.service.limit n) (add-one (suc k)) (sound.service.grows (suc k) (omega arith) h) in
         omega arith
 
-    climbing : Climbing bound calls → All Took events × ((k : ℕ) → k ≤ horizon → taken [] (take k events) ≡ climb bound (0 + k))
+    climbing : Climbing bound calls → AllByRecursion Took events × ((k : ℕ) → k ≤ horizon → taken [] (take k events) ≡ climb bound (0 + k))
     climbing (orders, c, e) =
         climbs bound v.none grows v.joins (terms m layout placed) v.same horizon 0 orders events (state m placed) k c.long (omega arith)
         (λ n l. let z : 0 + n ≡ n = omega arith in c.steps n l ∙ (λ i. bound (add-one (sym z i) i) - bound (sym z i))) (run.each ∙ e) run.history
 
 -- a new supplier, with an envelope or none
 pub summits : (m : Meaning) (layout : Layout) (placed : List Placed) (envelope : Option (ℕ → ℕ)) (calls : List Call) (events : List Event) (k : State) →
-    Sound m → All (Shelved m) placed → IfSome envelope (Enveloped m placed) → Run (terms m layout placed) [] (state m placed) calls events k →
+    Sound m → AllByRecursion (Shelved m) placed → IfSome envelope (Enveloped m placed) → Run (terms m layout placed) [] (state m placed) calls events k →
     IfSome envelope (λ bound. Summit (terms m layout placed) bound calls events)
 summits m layout placed None calls events k sound shelved v run = tt
 summits m layout placed (Some bound) calls events k sound shelved v run = summit m layout placed bound calls events k sound shelved v run

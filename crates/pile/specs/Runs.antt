@@ -1,6 +1,6 @@
 -- What every list of calls at a supplier keeps, said of the orders that were taken from day 1, the newest first.
 use Rattle.std.specs.Prelude.{◌≡◌, ℕ, ◌-◌, ◌*◌, ◌<◌, ◌≤◌, List, [], ◌∷◌, map, length, take, drop, IfSome, Some, None, Ok, Err, Option}
-use Rattle.std.specs.List.{slice_get, AllByRecursion as All}
+use Rattle.std.specs.List.{slice_get, AllByRecursion}
 use Rattle.figures.specs.Days.{horizon, total}
 use Rattle.envelope.specs.Climbs.{Climbs}
 use Rattle.supplier.specs.declared.line.Line.{Line as Row}
@@ -50,7 +50,7 @@ pub record Stands (t : Terms) (orders : List ℕ) (s : State) : Type 0 where
   pub book : s.meaning.service.book ≡ recent horizon orders
   pub within : Within (allowed t.limit) orders
   pub figures : figures_of s.shelves ≡ t.shelves
-  pub stocks : All (Stocked (allowed t.limit) orders s.meaning.sheet) s.shelves
+  pub stocks : AllByRecursion (Stocked (allowed t.limit) orders s.meaning.sheet) s.shelves
 
 -- What a call tells after these orders, at a supplier that is s before it and k after it.
 -- A trial or a day is refused exactly when the term is spent or its order breaks a window of these orders;
@@ -96,9 +96,9 @@ pub record Summit (t : Terms) (bound : ℕ → ℕ) (calls : List Call) (events 
   -- the lowest points of the shelves are those of the envelope
   pub bounds : (k : ℕ) → k ≤ horizon → allowed t.limit k ≡ bound k
   -- the climbing list alone is taken whole
-  pub climbed : Climbing bound calls → All Took events
+  pub climbed : Climbing bound calls → AllByRecursion Took events
   -- and brings each shelf to its lowest point
-  pub reached : Climbing bound calls → All (Reached bound events) t.shelves
+  pub reached : Climbing bound calls → AllByRecursion (Reached bound events) t.shelves
 
 -- What a new supplier keeps over a whole list of calls.
 pub record Kept (t : Terms) (envelope : Option (ℕ → ℕ)) (s : State) (calls : List Call) (events : List Event) (k : State) : Type 0 where

@@ -2,7 +2,7 @@
 use Rattle.std.proofs.Common.{◌≡◌, ℕ, zero, suc, ◌+◌, ◌<◌, ◌≤◌, List, length, get_or, sym, ap, ◌∙◌, ⊎_elim, add-one, arith}
 use Rattle.std.proofs.lemmas.List.{get_or_past}
 use Rattle.std.proofs.lemmas.Bool.{cases_lt}
-use Rattle.figures.specs.Days.{horizon, most, for_days}
+use Rattle.figures.specs.Days.{horizon}
 use Rattle.envelope.specs.Curves.{Curve, Lawful}
 use Rattle.supplier.specs.Limits.{High, Grows}
 use Rattle.stages.specs.StageMaking.{Copies}

@@ -1,18 +1,27 @@
 -- A stage that passes its question is tied to what lies below from the start.
-use Rattle.std.proofs.Common.{◌≡◌, ℕ, zero, suc, ◌+◌, ◌-◌, ◌<◌, ◌≤◌, List, get_or, take, drop, sym, refl, ap, ◌∙◌, subst, arith}
+use Rattle.std.proofs.Common.{◌≡◌, ℕ, ◌+◌, ◌-◌, List, get_or, take, drop, sym, ap, ◌∙◌, arith}
 use Rattle.figures.specs.Days.{horizon, for_days, total, span}
 use Rattle.figures.proofs.Totals.{zeros_get, zeros_total}
 use Rattle.supplier.specs.Orders.{no_orders}
-use Rattle.supplier.specs.Books.{orders_of}
 use Rattle.supplier.specs.Meaning.{Meaning, Sound}
 use Rattle.supplier.proofs.Books.{fresh}
 use Rattle.stages.specs.declared.stock.Stock.{Stock}
+use Rattle.stages.specs.Joins.{Joins}
 use Rattle.stages.specs.Stages.{Tied, book_of, bound_of}
 use Rattle.stages.specs.StageMaking.{Copies, StagePasses, Stocked}
 
+-- a table that tells an envelope's bound keeps its law
+pub joins_copied : (bound : ℕ → ℕ) (table : List ℕ) → Copies bound table → Joins bound → Joins (for_days table)
+joins_copied bound table copy joins i j h =
+    let x = copy i (omega arith) in
+    let y = copy j (omega arith) in
+    let w = copy (i + j) h in
+    let z = joins i j h in
+    omega arith
+
 pub tied_new : (ok : Type 0) (m : Meaning) (bound : ℕ → ℕ) (number process quote base : ℕ) (table : List ℕ) (own : Stock) → ok → Sound m →
-    StagePasses m bound number process quote base → ((i j : ℕ) → i + j ≤ horizon → bound (i + j) ≤ bound i + bound j) → Copies bound table → Stocked number table process quote base own → Tied ok m own
-tied_new ok m bound number process quote base table own o sound (ranges, unused, (within, early), under, room) joins copy e =
+    StagePasses m bound number process quote base → Copies bound table → Stocked number table process quote base own → Tied ok m own
+tied_new ok m bound number process quote base table own o sound (ranges, unused, (within, early), under, room) copy e =
     let none = fresh m.service.days m.service.book sound.service.before unused sound.service.long in
     let from : m.service.quote + own.process ≡ m.service.quote + process = ap (λ n. m.service.quote + n) e.time in
     let qu = e.quoted in
@@ -26,12 +35,6 @@ tied_new ok m bound number process quote base table own o sound (ranges, unused,
           let x = ap (λ t. for_days t k) e.bounds in
           let y = copy k b in
           let z = under k a b in
-          omega arith;
-      joins = λ i j h.
-          let x = ap (λ t. for_days t i) e.bounds ∙ copy i (omega arith) in
-          let y = ap (λ t. for_days t j) e.bounds ∙ copy j (omega arith) in
-          let w = ap (λ t. for_days t (i + j)) e.bounds ∙ copy (i + j) h in
-          let z = joins i j h in
           omega arith;
       room =
           let d : (m.service.quote + own.process) - own.quote ≡ (m.service.quote + process) - quote = omega arith in

@@ -1,9 +1,8 @@
 -- A stage is never refused below, and its shelf steps from day to day as the closed form says.
-use Rattle.std.proofs.Common.{◌≡◌, ℕ, zero, suc, ◌+◌, ◌-◌, ◌*◌, ◌^◌, ◌<◌, ◌≤◌, min, List, [], ◌∷◌, length, get_or, take, drop, None, sym, refl, ap, ◌∙◌, subst, zero-le, arith}
-use Rattle.figures.specs.Days.{horizon, most, for_days, total, window, span, pushed}
+use Rattle.std.proofs.Common.{◌≡◌, ℕ, zero, suc, ◌+◌, ◌-◌, ◌<◌, ◌≤◌, List, ◌∷◌, get_or, take, drop, None, sym, ap, ◌∙◌, subst, zero-le, arith}
+use Rattle.figures.specs.Days.{horizon, most, for_days, total, span, pushed}
 use Rattle.figures.proofs.Totals.{part_of_front, window_front, span_front, span-pushed}
 use Rattle.supplier.specs.declared.line.Kind.TheVariants as kind
-use Rattle.supplier.specs.declared.line.Line.{Line}
 use Rattle.supplier.specs.Orders.{term, entered, due, Fits, FitsWithin}
 use Rattle.supplier.specs.Books.{orders_of}
 use Rattle.supplier.specs.Ledgers.{Entry}
@@ -95,12 +94,6 @@ module _
               let x = bound-kept i in
               let y = ap (λ (f : ℕ → ℕ). f i) k.limit in
               let z = t.under i a b in
-              omega arith;
-          joins = λ i j h.
-              let x = bound-kept i in
-              let y = bound-kept j in
-              let w = bound-kept (i + j) in
-              let z = t.joins i j h in
               omega arith;
           room =
               let e : (m'.service.quote + own'.process) - own'.quote ≡ (m.service.quote + own.process) - own.quote = let b = from-kept in omega arith in

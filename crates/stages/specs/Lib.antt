@@ -1,3 +1,4 @@
+pub mod Joins
 pub mod Stages
 pub mod Stocks
 pub mod StageMaking

@@ -10,7 +10,7 @@ use Rattle.supplier.specs.Meaning.{Meaning}
 use Rattle.layers.specs.Questions.{Asked}
 use Rattle.stages.specs.declared.stock.Stock.{Stock}
 use Rattle.stages.specs.declared.stage.Staging.{Staging}
-use Rattle.stages.specs.Stages.{Tied, book_of, bound_of}
+use Rattle.stages.specs.Stages.{Tied, book_of}
 
 -- a table tells a function up to the horizon
 abbrev pub Copies : (ℕ → ℕ) → List ℕ → Type 0

@@ -1,4 +1,6 @@
 // Stages over any supplier.
+#![tactic(auto)]
+
 mod goods;
 mod stage;
 mod stock;

@@ -1,6 +1,7 @@
 // The own figures of a stage.
 ghost use Rattle.std.specs.Prelude.{◌≡◌, ◌≤◌};
-ghost use Rattle.figures.specs.Days.{horizon, most};
+ghost use Rattle.figures.specs.Days.{horizon, most, for_days};
+ghost use Rattle.stages.specs.Joins.{Joins};
 
 use supplier::{Book, Ledger};
 
@@ -19,4 +20,5 @@ pub struct Stock {
     ghost brief: { process ≤ horizon },
     ghost near: { quote ≤ horizon },
     ghost small: { base ≤ most },
+    ghost joins: { Joins (for_days ledger.limits.bounds) },
 }

@@ -1,6 +1,6 @@
 // The supplier's meaning: what every supplier tells, and what a day does.
 ghost use Rattle.std.specs.Prelude.{◌≡◌, ℕ, List, [], length, IfSome, None, Option};
-ghost use Rattle.std.specs.List.{slice_get, AllByRecursion as All};
+ghost use Rattle.std.specs.List.{slice_get, AllByRecursion};
 ghost use Rattle.supplier.specs.Limits.{told_limit};
 ghost use Rattle.supplier.specs.Meaning.{Meaning, Sound, Layout, untold, Day};
 ghost use Rattle.supplier.specs.Shelves.{Placed, Shelved, Enveloped, figures_of};
@@ -59,7 +59,7 @@ pub trait Supplier {
 
     ghost sound: { (s : Self) → valid s → Sound (meaning s) };
 
-    ghost shelved: { (s : Self) → valid s → All (Shelved (meaning s)) (shelves s) };
+    ghost shelved: { (s : Self) → valid s → AllByRecursion (Shelved (meaning s)) (shelves s) };
 
     ghost enveloped: { (s : Self) → valid s → IfSome (envelope s) (Enveloped (meaning s) (shelves s)) };
 }

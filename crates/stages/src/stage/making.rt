@@ -1,9 +1,10 @@
 // The question and the making of a stage.
 ghost use Rattle.std.specs.Prelude.{◌≡◌, ℕ, ◌≤◌, [], ◌∷◌, IfNone};
-ghost use Rattle.figures.specs.Days.{horizon, most};
+ghost use Rattle.figures.specs.Days.{horizon, most, for_days};
 ghost use Rattle.figures.specs.Ranges.{AllIn};
 ghost use Rattle.supplier.specs.Numbers.{named};
 ghost use Rattle.layers.specs.Makings.{Given};
+ghost use Rattle.stages.specs.Joins.{Joins};
 ghost use Rattle.stages.specs.StageMaking.{stage_ranges, StageAsked, StagePasses, StageNew, Stocked};
 
 use crate::stage::Staging;
@@ -37,6 +38,7 @@ fn stocked(number: u16, limits: Limits, process: u8, quote: u8, base: u64) -> St
     requires brief { process ≤ horizon }
     requires near { quote ≤ horizon }
     requires small { base ≤ most }
+    requires joins { Joins (for_days limits.bounds) }
     ensures { Stocked number limits.bounds process quote base result }
 {
     Stock {

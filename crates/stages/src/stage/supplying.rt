@@ -52,7 +52,7 @@ impl<S: Supplier> Supplier for Staging<S> {
           shelves-later m _ _ v.same under refl (S.Supplier.shelves s.below) (S.Supplier.shelved s.below v.below_ok),
         ) };
 
-    ghost enveloped = { λ s v. record { none = refl; joins = v.joins; same = λ k a b. refl; own = (refl, refl) } };
+    ghost enveloped = { λ s v. record { none = refl; joins = s.own.joins; same = λ k a b. refl; own = (refl, refl) } };
 
     fn quote(&self) -> u8 {
         self.own.quote

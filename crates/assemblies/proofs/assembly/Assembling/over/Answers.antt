@@ -1,4 +1,4 @@
-use Rattle.std.proofs.Common.{◌≡◌, ℕ, [], ◌∷◌, sym, refl, ap, ◌∙◌, subst, arith}
+use Rattle.std.proofs.Common.{◌≡◌, [], ◌∷◌, refl, ap, ◌∙◌, subst, arith}
 use Rattle.supplier.specs.declared.line.Kind.TheVariants as kind
 use Rattle.supplier.proofs.Naming.{named-kept}
 use Rattle.layers.specs.Idles.{idled}

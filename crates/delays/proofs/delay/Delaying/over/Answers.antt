@@ -1,5 +1,5 @@
-use Rattle.std.proofs.Common.{◌≡◌, ℕ, ◌+◌, ◌≤◌, List, get_or, sym, refl, ap, ◌∙◌, subst, arith}
-use Rattle.figures.specs.Days.{horizon, most}
+use Rattle.std.proofs.Common.{◌+◌, ◌≤◌, get_or, sym, refl, ap, ◌∙◌, subst, arith}
+use Rattle.figures.specs.Days.{horizon}
 use Rattle.figures.proofs.Totals.{zeros_get}
 use Rattle.supplier.proofs.Naming.{named-kept}
 use Rattle.delays.specs.DelayMaking.{Fresh}

@@ -1,11 +1,11 @@
-use Rattle.std.proofs.Common.{◌≡◌, ℕ, ◌+◌, ◌-◌, ◌≤◌, List, [], ◌∷◌, sym, refl, ap, ◌∙◌, subst, arith}
+use Rattle.std.proofs.Common.{◌≡◌, ◌+◌, ◌-◌, ◌≤◌, [], ◌∷◌, sym, refl, ap, ◌∙◌, subst, arith}
 use Rattle.figures.specs.Days.{horizon}
 use Rattle.supplier.specs.declared.line.Kind.TheVariants as kind
 use Rattle.supplier.proofs.Naming.{named-kept}
 use Rattle.layers.specs.Idles.{idled}
 use Rattle.layers.proofs.Asking.{never_passes}
 use Rattle.stages.specs.StageMaking.{stage_ranges, Under, Copies, Stocked}
-use Rattle.stages.proofs.Opening.{tied_new}
+use Rattle.stages.proofs.Opening.{joins_copied, tied_new}
 use Rattle.stages.proofs.stage.Staging.over.Goals as goal
 
 pub returns-in-Some : goal.returns-in-Some
@@ -30,7 +30,12 @@ overflow_cast-quote g c = let d = c.in_default.ensures.ranged 2 (omega arith) (o
 pub stocked-own-requires : goal.stocked-own-requires
 stocked-own-requires g c =
     let p = c.in_default.ensures.ranged in
-    record { brief = (p 1 (omega arith) (omega arith)).1; near = (p 2 (omega arith) (omega arith)).1; small = (p 3 (omega arith) (omega arith)).1 }
+    record {
+      brief = (p 1 (omega arith) (omega arith)).1;
+      near = (p 2 (omega arith) (omega arith)).1;
+      small = (p 3 (omega arith) (omega arith)).1;
+      joins = joins_copied (g.E.Envelope.meaning c.args.envelope.now).bound c.copied.result.bounds c.copied.ensures (g.met.E.Envelope.lawful c.args.envelope.now).joins;
+    }
 
 pub returns : goal.returns
 returns g c v =
@@ -48,6 +53,6 @@ returns g c v =
         bounds = subst (Copies V) (sym e.bounds) copy;
         stocked = subst (λ t. Stocked c.args.number t c.args.process c.args.quote c.args.base own) (sym e.bounds) named;
         tied = tied_new (g.S.Supplier.valid c.args.below) m V c.args.number c.args.process c.args.quote c.args.base c.copied.result.bounds own
-            v (g.met.S.Supplier.sound c.args.below v) p (g.met.E.Envelope.lawful c.args.envelope.now).joins copy named;
+            v (g.met.S.Supplier.sound c.args.below v) p copy named;
       },
     )

@@ -1,13 +1,13 @@
-use Rattle.std.proofs.Common.{◌≡◌, ℕ, ◌+◌, ◌-◌, ◌*◌, ◌^◌, ◌<◌, ◌≤◌, max, List, ◌∷◌, ◌++◌, map, length, get_or, None, unwrap_or, sym, refl, ap, ◌∙◌, subst, arith}
+use Rattle.std.proofs.Common.{◌+◌, ◌*◌, ◌≤◌, max, ◌∷◌, ◌++◌, map, length, get_or, unwrap_or, sym, ap, ◌∙◌, subst, arith}
 use Rattle.figures.specs.Days.{horizon, most, near, span}
 use Rattle.figures.proofs.Totals.{near_value}
-use Rattle.supplier.specs.Orders.{term, entered, due}
+use Rattle.supplier.specs.Orders.{entered, due}
 use Rattle.supplier.specs.Books.{orders_of}
 use Rattle.supplier.specs.Meaning.{Laid}
 use Rattle.layers.specs.Sheets.{topped}
 use Rattle.assemblies.specs.Assemblies.{times, shared, assembly_line, assembly_layout, joined, Joined}
 use Rattle.assemblies.specs.Scaling.{get-times, entered-times, shared-left, shared-right}
-use Rattle.assemblies.specs.Joining.{Part, Free, kits_free}
+use Rattle.assemblies.specs.Joining.{kits_free}
 use Rattle.assemblies.specs.Scaled.{scale, figures_both, laid_joined}
 use Rattle.assemblies.proofs.Kitted.{top_small, whole, wait_step, assembly_line_step}
 use Rattle.assemblies.proofs.assembly.supplying.AssemblingSupplier.day.Goals as goal

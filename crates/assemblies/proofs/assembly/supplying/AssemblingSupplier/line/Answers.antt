@@ -1,7 +1,6 @@
-use Rattle.std.proofs.Common.{◌≡◌, ℕ, ◌+◌, ◌-◌, ◌*◌, ◌<◌, ◌≤◌, max, List, ◌++◌, length, get_or, drop, Some, unwrap_or, sym, ap, ◌∙◌, mul-le-mul, arith}
+use Rattle.std.proofs.Common.{◌≡◌, ◌+◌, ◌-◌, ◌*◌, max, ◌++◌, get_or, Some, unwrap_or, sym, ap, ◌∙◌, arith}
 use Rattle.std.specs.List.{slice_get}
-use Rattle.figures.specs.Days.{most, span}
-use Rattle.figures.proofs.Totals.{near_value}
+use Rattle.figures.specs.Days.{span}
 use Rattle.supplier.specs.declared.line.Kind.TheVariants as kind
 use Rattle.supplier.specs.Books.{orders_of}
 use Rattle.layers.proofs.Topped.{topped-cut, topped_below, topped-first}
@@ -10,8 +9,8 @@ use Rattle.assemblies.specs.Scaled.{nth_left, nth_right}
 use Rattle.assemblies.proofs.Kitted.{waits_small}
 use Rattle.assemblies.proofs.assembly.supplying.AssemblingSupplier.line.Goals as goal
 
-pub returns-then-i-ge-MOST_LINES : goal.returns-then-i-ge-MOST_LINES
-returns-then-i-ge-MOST_LINES g c v = sym (topped-cut _ _ c.args.i (omega arith))
+pub returns-then-i-ge1000 : goal.returns-then-i-ge1000
+returns-then-i-ge1000 g c v = sym (topped-cut _ _ c.args.i (omega arith))
 
 pub returns-then-i-left : goal.returns-then-i-left
 returns-then-i-left g c v =

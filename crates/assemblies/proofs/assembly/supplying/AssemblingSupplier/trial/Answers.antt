@@ -1,4 +1,4 @@
-use Rattle.std.proofs.Common.{◌≡◌, ℕ, ◌+◌, ◌-◌, ◌*◌, ◌^◌, ◌≤◌, min, Some, None, Option, unwrap_or, sym, refl, ap, ◌∙◌, subst, arith}
+use Rattle.std.proofs.Common.{◌≡◌, ℕ, ◌-◌, ◌*◌, ◌^◌, ◌≤◌, min, Some, None, Option, unwrap_or, refl, ap, ◌∙◌, arith}
 use Rattle.figures.specs.Days.{most}
 use Rattle.supplier.specs.declared.fault.Fault.{Fault}
 use Rattle.supplier.specs.Limits.{told_limit}

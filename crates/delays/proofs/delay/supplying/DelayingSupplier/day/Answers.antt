@@ -1,11 +1,10 @@
-use Rattle.std.proofs.Common.{◌≡◌, ℕ, ◌+◌, ◌≤◌, List, ◌∷◌, get_or, Some, unwrap_or, sym, refl, ap, ◌∙◌, subst}
+use Rattle.std.proofs.Common.{◌≡◌, ℕ, ◌+◌, ◌≤◌, List, ◌∷◌, get_or, Some, unwrap_or, sym, ap, ◌∙◌, subst}
 use Rattle.std.specs.Option.{option_map}
 use Rattle.figures.specs.Days.{horizon, most}
 use Rattle.figures.proofs.Totals.{near_value, pushed-small}
-use Rattle.supplier.specs.Orders.{entered, due}
+use Rattle.supplier.specs.Orders.{due}
 use Rattle.supplier.specs.Books.{orders_of}
 use Rattle.supplier.specs.Meaning.{Laid}
-use Rattle.supplier.specs.Shelves.{figures_of}
 use Rattle.supplier.proofs.Books.{taken-book}
 use Rattle.layers.specs.Carrying.{carries}
 use Rattle.layers.specs.Sheets.{topped}

@@ -1,12 +1,11 @@
-use Rattle.std.proofs.Common.{◌≡◌, ℕ, ◌+◌, ◌-◌, ◌<◌, ◌≤◌, List, ◌∷◌, get_or, unwrap_or, sym, refl, ap, ◌∙◌, subst, arith}
+use Rattle.std.proofs.Common.{◌≡◌, ◌+◌, ◌<◌, ◌≤◌, ◌∷◌, get_or, unwrap_or, sym, refl, ap, ◌∙◌, subst, arith}
 use Rattle.std.specs.Option.{option_map}
-use Rattle.figures.specs.Days.{horizon, most, for_days}
+use Rattle.figures.specs.Days.{most, for_days}
 use Rattle.figures.proofs.Totals.{near_value}
 use Rattle.supplier.specs.Orders.{term, due, Fits}
 use Rattle.supplier.specs.Books.{orders_of}
 use Rattle.supplier.specs.Finders.{Plain}
 use Rattle.supplier.specs.Meaning.{Laid}
-use Rattle.supplier.specs.Shelves.{Shelf, figures_of}
 use Rattle.supplier.proofs.Books.{orders-small}
 use Rattle.supplier.proofs.Finders.{finds_plain}
 use Rattle.layers.specs.Sheets.{topped}
