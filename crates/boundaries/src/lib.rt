@@ -1,3 +1,5 @@
+#![tactic(auto)]
+
 // Tests: the worked figures, both sides of every range, and days of vendors and layers up to the term.
 #[cfg(test)]
 mod assemblies;

@@ -1,21 +1,21 @@
 -- Each call shows what the orders so far say, and leaves a supplier that has taken the orders then.
-use Rattle.std.proofs.Common.{◌≡◌, ℕ, zero, suc, ◌+◌, ◌-◌, ◌*◌, ◌<◌, ◌≤◌, List, [], ◌∷◌, length, get_or, take, drop, Some, None, Ok, Err, Option, Result, sym, refl, ap, ◌∙◌, subst, zero-le, mul-le-mul_left, arith}
+use Rattle.std.proofs.Common.{◌≡◌, ℕ, zero, suc, ◌-◌, ◌*◌, ◌≤◌, List, [], ◌∷◌, length, Some, None, Ok, Err, Option, sym, refl, ap, ◌∙◌, subst, zero-le, mul-le-mul_left, arith}
 use Rattle.std.specs.List.{slice_get, AllByRecursion}
 use Rattle.std.proofs.ByRecursion.{All-weaker}
-use Rattle.figures.specs.Days.{horizon, total, window, span}
+use Rattle.figures.specs.Days.{horizon, window, span}
 use Rattle.supplier.specs.declared.fault.Cause.{Cause}
 use Rattle.supplier.specs.declared.fault.Cause.TheVariants.{TermSpent, OverDay, OverWindow}
 use Rattle.supplier.specs.declared.fault.Fault.{Fault}
-use Rattle.supplier.specs.Orders.{due, recent, entered, no_orders, Fits}
+use Rattle.supplier.specs.Orders.{due, recent, entered, Fits}
 use Rattle.supplier.specs.Limits.{told_limit}
 use Rattle.supplier.specs.Meaning.{Meaning, Layout, Laid, Sound, Taken, RefusedBy, CausedBy}
-use Rattle.supplier.specs.Shelves.{Shelf, Placed, Shelved, Tells, figures_of, owed, held, allowed}
+use Rattle.supplier.specs.Shelves.{Placed, Shelved, Tells, figures_of, allowed}
 use Rattle.supplier.proofs.Books.{fresh}
 use Rattle.supplier.proofs.Recents.{due-recent, window-recent, span-recent, recent-more, recent-none}
 use Rattle.pile.specs.declared.calls.Event.{Event}
 use Rattle.pile.specs.declared.calls.Event.TheVariants.{Trial, Day, Quote, Limit, Days, Lines, Line}
 use Rattle.pile.specs.Events.{after}
-use Rattle.pile.specs.Runs.{Terms, State, Stands, Stocked, Shown, Within, lowest}
+use Rattle.pile.specs.Runs.{Terms, State, Stands, Stocked, Shown, Within}
 use Rattle.pile.specs.Steps.{Answered, state, terms}
 
 -- windows of the last orders are windows of all orders

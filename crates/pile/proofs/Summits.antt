@@ -3,19 +3,18 @@ use Rattle.std.proofs.Common.{◌≡◌, ℕ, zero, suc, ◌+◌, ◌-◌, ◌*�
 use Rattle.std.specs.List.{AllByRecursion}
 use Rattle.std.proofs.lemmas.Bool.{cases_lt}
 use Rattle.std.proofs.ByRecursion.{All-weaker, All-map}
-use Rattle.envelope.specs.Climbs.{Climbs}
 use Rattle.figures.specs.Days.{horizon, total, window, span}
 use Rattle.supplier.specs.declared.fault.Fault.{Fault}
-use Rattle.supplier.specs.Orders.{term, Fits}
+use Rattle.supplier.specs.Orders.{Fits}
 use Rattle.supplier.specs.Meaning.{Meaning, Layout, Sound, RefusedBy}
-use Rattle.supplier.specs.Shelves.{Shelf, Placed, Shelved, Enveloped, figures_of, held, allowed}
+use Rattle.supplier.specs.Shelves.{Shelf, Placed, Shelved, Enveloped, held, allowed}
 use Rattle.supplier.proofs.Services.{free-taken}
 use Rattle.pile.specs.declared.calls.Call.{Call}
 use Rattle.pile.specs.declared.calls.Call.TheVariants as call
 use Rattle.pile.specs.declared.calls.Event.{Event}
 use Rattle.pile.specs.declared.calls.Event.TheVariants.{Trial, Day, Quote, Limit, Days, Lines, Line}
-use Rattle.pile.specs.Events.{asked, after, taken, Took}
-use Rattle.pile.specs.Runs.{Terms, State, History, Run, Climbing, Reached, Summit, lowest}
+use Rattle.pile.specs.Events.{asked, taken, Took}
+use Rattle.pile.specs.Runs.{Terms, State, History, Run, Climbing, Reached, Summit}
 use Rattle.pile.specs.Steps.{state, terms}
 
 -- the orders of the climbing list's first n days, the newest first

@@ -83,7 +83,7 @@ pub record Run (t : Terms) (orders : List ℕ) (s : State) (calls : List Call) (
 
 -- the calls are the days of the climbing list, and nothing else
 abbrev pub Climbing : (ℕ → ℕ) → List Call → Type 0
-Climbing bound calls = (orders : List ℕ) × Climbs bound orders × (calls ≡ map call.Day orders)
+Climbing bound calls = (orders : List ℕ) × Climbs (record { bound = bound; mean = 0 }) orders × (calls ≡ map call.Day orders)
 
 -- some day of the list leaves the shelf at its lowest point
 abbrev pub Reached : (ℕ → ℕ) → List Event → Shelf → Type 0

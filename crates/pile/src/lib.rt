@@ -1,4 +1,6 @@
 // Piles: any list of calls replayed on any supplier, and what every such list keeps.
+#![tactic(auto)]
+
 mod calls;
 mod replaying;
 

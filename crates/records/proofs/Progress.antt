@@ -1,10 +1,9 @@
 -- The fields of a record, read one by one.
-use Rattle.std.proofs.Common.{◌≡◌, ℕ, zero, suc, ◌+◌, ◌^◌, ◌<◌, ◌≤◌, List, [], ◌∷◌, ◌++◌, map, length, get_or, take, Some, None, Ok, Err, decimal, Option, Result, sym, refl, ap, ◌∙◌, subst, ⊎_elim, append-nil, zero-le, arith, Bor, MatchOption}
+use Rattle.std.proofs.Common.{◌≡◌, ℕ, ◌+◌, ◌^◌, ◌<◌, ◌≤◌, List, [], ◌∷◌, ◌++◌, length, get_or, Some, None, Err, decimal, Option, Result, sym, refl, ap, ◌∙◌, subst, ⊎_elim, append-nil, zero-le, arith, Bor, MatchOption}
 use Rattle.std.proofs.lemmas.List.{get_or_append_left, get_or_push, length_push}
 use Rattle.std.proofs.lemmas.Bool.{cases_lt}
 use Rattle.figures.specs.declared.ranges.Range.{Range}
 use Rattle.figures.specs.Ranges.{Within, missing}
-use Rattle.printed.specs.Texts.{spaced}
 use Rattle.records.specs.declared.place.Place.{Place}
 use Rattle.records.specs.declared.word.Word.{Word as Spoken}
 use Rattle.records.specs.declared.word.Word.TheVariants.{Mark, Number, Junk}

@@ -10,11 +10,11 @@ use Rattle.records.specs.declared.record.Record.TheVariants.{Calendar, Delay, Pi
 use Rattle.records.specs.declared.word_fault.WordFault.TheVariants.{OutOfRange, NoNumber}
 use Rattle.records.specs.declared.record_fault.RecordFault.{RecordFault}
 use Rattle.records.specs.declared.record_fault.RecordFault.TheVariants.{Word, LawBroken, NoMark, FieldCount, LongLine}
-use Rattle.records.specs.Numerals.{Writes, IsNoNumber, most_digits}
-use Rattle.records.specs.Fields.{Good, Filled, WrongWord, MissingField, ExtraField, NotWritten, OutOf, FaultyFields, figures_text}
+use Rattle.records.specs.Numerals.{Writes, most_digits}
+use Rattle.records.specs.Fields.{Good, WrongWord, MissingField, ExtraField, NotWritten, OutOf, FaultyFields, figures_text}
 use Rattle.records.specs.Kinds.{mark_of, ranges_of, TakenApart}
 use Rattle.records.specs.Records.{kind_of, figures_of, record_text, InRange, TextRead, RecordRead, ReadsBack}
-use Rattle.records.proofs.Splitting.{Leads, next_word, no_space, same_number, text_same, leads, tail_of, tail-ended}
+use Rattle.records.proofs.Splitting.{next_word, no_space, same_number, text_same, leads, tail_of, tail-ended}
 
 -- a record from its kind and its figures
 abbrev rebuilt : RecordKind → List ℕ → Record

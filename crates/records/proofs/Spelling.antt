@@ -1,14 +1,14 @@
 -- The words that write numbers: their digits, and their values.
-use Rattle.std.proofs.Common.{◌≡◌, ℕ, zero, suc, ◌+◌, ◌-◌, ◌*◌, ◌^◌, ◌<◌, ◌≤◌, List, [], ◌∷◌, length, get_or, take, decimal, sym, refl, ap, ◌∙◌, subst, ⊎_elim, pow-suc, add-one, arith}
+use Rattle.std.proofs.Common.{◌≡◌, ℕ, ◌+◌, ◌-◌, ◌*◌, ◌^◌, ◌<◌, ◌≤◌, List, length, get_or, take, decimal, sym, ap, ◌∙◌, subst, ⊎_elim, pow-suc, add-one, arith}
 use native.Mathlib.Nat.{pow-le-pow_right}
 use Rattle.std.specs.Int.{IsInRange}
 use Rattle.std.specs.Char.{digit_value}
-use Rattle.std.specs.Str.Parse.{digits_value, AllDigits}
+use Rattle.std.specs.Str.Parse.{digits_value}
 use Rattle.std.proofs.lemmas.Fmt.{decimal_is_IsNumeral, decimal_nonempty, decimal_digit, length-decimal-le, first_decimal, decimal-digits_value}
 use Rattle.std.proofs.lemmas.Int.Digits.{digits_value_more}
 use Rattle.std.proofs.lemmas.Str.Parse.{IsNumeralModel, numerals_by_value, tells_by_index, digit_at, digits_value_short}
 use Rattle.std.proofs.lemmas.Bool.{cases_lt, cond-true, cond-false, lt-ltb, le-ltb}
-use Rattle.records.specs.Numerals.{Writes, IsNoNumber, most_digits}
+use Rattle.records.specs.Numerals.{Writes, most_digits}
 
 -- what a word that writes a number looks like
 pub record Shape (w : List ℕ) : Type 0 where
@@ -45,15 +45,15 @@ shape_writes w n s e =
     (omega arith, sym (ap decimal e ∙ d))
 
 -- a digit's value
-digit_value : (c : ℕ) → 48 ≤ c → c ≤ 57 → digit_value c ≡ c - 48
-digit_value c a b = cond-false _ _ _ (le-ltb c 48 a) ∙ cond-true _ _ _ (lt-ltb c 58 (omega arith))
+digit_value_lem : (c : ℕ) → 48 ≤ c → c ≤ 57 → digit_value c ≡ c - 48
+digit_value_lem c a b = cond-false _ _ _ (le-ltb c 48 a) ∙ cond-true _ _ _ (lt-ltb c 58 (omega arith))
 
 -- one more digit
 pub one_more : (w : List ℕ) (i n : ℕ) → i < length w → n ≡ digits_value 10 (take i w) → 48 ≤ get_or w i 0 → get_or w i 0 ≤ 57 →
     10 * n + (get_or w i 0 - 48) ≡ digits_value 10 (take (i + 1) w)
 one_more w i n h e a b =
     let m = digits_value_more 10 w i h in
-    let d = digit_value (get_or w i 0) a b in
+    let d = digit_value_lem (get_or w i 0) a b in
     omega arith
 
 -- a number of so few digits is small

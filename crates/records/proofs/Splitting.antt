@@ -1,8 +1,6 @@
 -- A text falls into words in one way only, so a record's line writes that record and no other.
-use Rattle.std.proofs.Common.{◌≡◌, ℕ, zero, suc, ◌+◌, ◌^◌, ◌<◌, ◌≤◌, List, [], ◌∷◌, ◌++◌, map, length, get_or, decimal, sym, refl, ap, ◌∙◌, subst, append-nil, arith}
-use Rattle.std.specs.Int.{IsInRange}
+use Rattle.std.proofs.Common.{◌≡◌, ℕ, suc, ◌^◌, ◌<◌, ◌≤◌, List, [], ◌∷◌, ◌++◌, length, get_or, decimal, sym, refl, ◌∙◌, append-nil, arith}
 use Rattle.std.proofs.lemmas.Fmt.{decimal_injective}
-use Rattle.printed.specs.Texts.{spaced}
 use Rattle.records.specs.Numerals.{most_digits}
 use Rattle.records.specs.Words.{Lacks}
 use Rattle.records.specs.Fields.{Ended, figures_text, led}

@@ -3,7 +3,6 @@ use Rattle.std.specs.Prelude.{◌≡◌, ℕ, ◌+◌, ◌^◌, ◌<◌, ◌≤�
 use Rattle.figures.specs.declared.ranges.Range.{Range}
 use Rattle.figures.specs.Ranges.{Within, missing}
 use Rattle.printed.specs.Texts.{spaced}
-use Rattle.records.specs.declared.place.Place.{Place}
 use Rattle.records.specs.declared.word_fault.WordFault.TheVariants.{OutOfRange, NoNumber}
 use Rattle.records.specs.declared.record_fault.RecordFault.{RecordFault}
 use Rattle.records.specs.declared.record_fault.RecordFault.TheVariants.{Word, LawBroken, NoMark, FieldCount, LongLine}

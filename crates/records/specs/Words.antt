@@ -1,5 +1,5 @@
 -- Words one space apart.
-use Rattle.std.specs.Prelude.{◌≡◌, ℕ, ◌<◌, List, [], ◌∷◌, ◌++◌, length, ◌≢◌, slice_index}
+use Rattle.std.specs.Prelude.{ℕ, ◌<◌, List, length, ◌≢◌, slice_index}
 
 -- a byte does not stand among these
 abbrev pub Lacks : ℕ → List ℕ → Type 0

@@ -1,4 +1,6 @@
 // Files of records: their words, their lines, and what is refused of them.
+#![tactic(auto)]
+
 mod cuts;
 mod filling;
 mod kind;

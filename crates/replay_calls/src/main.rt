@@ -1,4 +1,6 @@
 // Replays a list of calls on a pile three layers deep, and prints each call with its answer.
+#![tactic(auto)]
+
 mod parsing;
 mod printing;
 

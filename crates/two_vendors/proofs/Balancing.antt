@@ -1,9 +1,8 @@
 -- An account of a new supplier balances, and each day keeps it so.
-use Rattle.std.proofs.Common.{◌≡◌, ℕ, zero, suc, ◌+◌, ◌-◌, ◌*◌, ◌^◌, ◌<◌, ◌≤◌, List, ◌∷◌, length, replicate, Some, None, Option, sym, refl, ap, ◌∙◌, subst, zero-le, mul-le-mul_left, mul-add, arith}
+use Rattle.std.proofs.Common.{◌≡◌, ℕ, ◌+◌, ◌-◌, ◌*◌, ◌^◌, ◌<◌, ◌≤◌, List, None, ap, ◌∙◌, subst, zero-le, mul-le-mul_left, mul-add, arith}
 use native.Mathlib.Nat.{sub-zero}
-use Rattle.figures.specs.Days.{horizon, most, window, span}
+use Rattle.figures.specs.Days.{horizon, most, window}
 use Rattle.figures.proofs.Totals.{zeros_window, span-pushed}
-use Rattle.supplier.specs.declared.fault.Fault.{Fault}
 use Rattle.supplier.specs.Orders.{term, entered, due, Fits}
 use Rattle.supplier.specs.Meaning.{Service, Steady, Refused, Taken}
 use Rattle.supplier.proofs.Books.{fresh}

@@ -1,4 +1,6 @@
 // Takes some weeks of orders at a pipeline and at a calendar vendor, and prints each day and what is still to come.
+#![tactic(auto)]
+
 mod account;
 mod printing;
 

@@ -16,4 +16,4 @@ flat n x i h =
     omega arith
 
 pub invariant_of-limits : goal.invariant_of-limits
-invariant_of-limits c = record { wide = refl; high = λ i. omega (arith, level horizon 10 i); grows = flat horizon 10 }
+invariant_of-limits c c' = record { wide = refl; high = λ i. omega (arith, level horizon 10 i); grows = flat horizon 10 }

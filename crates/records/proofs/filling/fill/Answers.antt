@@ -1,5 +1,5 @@
-use Rattle.std.proofs.Common.{◌≡◌, ℕ, ◌+◌, ◌<◌, ◌≤◌, List, [], ◌∷◌, ◌++◌, length, get_or, take, Some, None, Ok, Err, Option, Result, sym, refl, ap, ◌∙◌, subst, inl, inr, arith}
-use Rattle.std.proofs.lemmas.List.{length-take, length-set, length-replicate, take_all, take_more_set}
+use Rattle.std.proofs.Common.{◌≡◌, ℕ, ◌+◌, ◌<◌, List, length, get_or, take, Some, None, Ok, Err, sym, refl, ◌∙◌, subst, inl, inr, arith}
+use Rattle.std.proofs.lemmas.List.{length-take, length-set, take_all, take_more_set}
 use Rattle.std.proofs.lemmas.Result.{err_from_is_err_and}
 use Rattle.figures.specs.Ranges.{Within, missing}
 use Rattle.records.specs.declared.place.Place.{Place}
@@ -58,10 +58,10 @@ returns-in-None c =
     (subst (Progress c.args.ranges.now c.args.text.now (take c.loop-i.i c.loop-i.figures)) c.in-None.is c.loop-i.invariant.1) in
     record { good = p.0; all = c.loop-i.invariant.0; written = p.2 }
 
-pub returns-in-Some-default : goal.returns-in-Some-default
-returns-in-Some-default c =
+pub returns-in-Some-rest : goal.returns-in-Some-rest
+returns-in-Some-rest c =
     let all = take_all c.loop-i.i c.loop-i.figures (let e = c.loop-i.invariant.0 in omega arith) in
-    let p = subst (λ (fs : List ℕ). Progress c.args.ranges.now c.args.text.now fs (Some c.in-Some-default.field-0)) all
-    (subst (Progress c.args.ranges.now c.args.text.now (take c.loop-i.i c.loop-i.figures)) c.in-Some-default.is c.loop-i.invariant.1) in
+    let p = subst (λ (fs : List ℕ). Progress c.args.ranges.now c.args.text.now fs (Some c.in-Some-rest.field-0)) all
+    (subst (Progress c.args.ranges.now c.args.text.now (take c.loop-i.i c.loop-i.figures)) c.in-Some-rest.is c.loop-i.invariant.1) in
     let e = c.loop-i.invariant.0 in
-    (inr (record { before = c.loop-i.figures; more = c.in-Some-default.field-0.now; good = p.0; all = e; here = omega arith; written = p.1 }), refl)
+    (inr (record { before = c.loop-i.figures; more = c.in-Some-rest.field-0.now; good = p.0; all = e; here = omega arith; written = p.1 }), refl)

@@ -1,9 +1,8 @@
-use Rattle.std.proofs.Common.{◌≡◌, ℕ, ◌+◌, ◌-◌, ◌*◌, ◌^◌, ◌<◌, ◌≤◌, ◌⊎◌, List, length, get_or, take, MatchBool, sym, ap, ◌∙◌, subst, ⊎_elim, arith, below_more}
+use Rattle.std.proofs.Common.{◌≡◌, ◌-◌, ◌<◌, ◌≤◌, length, get_or, MatchBool, ap, ◌∙◌, subst, ⊎_elim, arith, below_more}
 use Rattle.std.specs.Int.{IsInRange, IsOutOfRange}
 use Rattle.std.specs.Str.Parse.{digits_value}
 use Rattle.std.proofs.lemmas.List.{take_all}
-use Rattle.records.specs.Numerals.{Writes}
-use Rattle.records.proofs.Spelling.{Shape, writes_shape, shape_writes, one_more, few-small, one-more-small}
+use Rattle.records.proofs.Spelling.{writes_shape, shape_writes, one_more, few-small, one-more-small}
 use Rattle.records.proofs.numerals.number.Goals as goal
 
 pub returns-then-word-eq0 : goal.returns-then-word-eq0
