@@ -2,7 +2,7 @@
 
 // Tests: the worked figures, both sides of every range, and days of vendors and layers up to the term.
 #[cfg(test)]
-mod assemblies;
+mod assembly;
 #[cfg(test)]
 mod books;
 #[cfg(test)]
@@ -10,6 +10,6 @@ mod days;
 #[cfg(test)]
 mod ranges;
 #[cfg(test)]
-mod stages;
+mod stage;
 #[cfg(test)]
 mod worked;
