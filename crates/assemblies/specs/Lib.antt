@@ -5,3 +5,4 @@ pub mod Conservation
 pub mod Scaling
 pub mod Joining
 pub mod Scaled
+pub mod AssemblyLaws

@@ -1,5 +1,5 @@
 // The range of a figure, and the first figure of a list that is outside its own.
-ghost use Rattle.std.specs.Prelude.{◌≡◌, ℕ, ◌+◌, ◌<◌, ◌≤◌, Bool, T, length, MatchBool, MatchOption};
+ghost use Rattle.std.specs.Prelude.{MatchBool, MatchOption};
 ghost use Rattle.figures.specs.Ranges.{Within, AllIn, FirstOut};
 
 /// The figures that pass, from `low` to `high`.

@@ -1,5 +1,5 @@
 // A layer as its making gives it: at work over what is below, or idle.
-ghost use Rattle.std.specs.Prelude.{◌≡◌, [], None};
+ghost use Rattle.std.specs.Prelude.{[], None};
 ghost use Rattle.layers.specs.Layers.{by_layer};
 ghost use Rattle.layers.specs.Idles.{idle_meaning, idle_layout, nothing};
 ghost use Rattle.layers.specs.declared.layer.Layer.TheVariants.{Working, Idle};

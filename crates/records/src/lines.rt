@@ -1,5 +1,4 @@
 // The lines of a file.
-ghost use Rattle.std.specs.Prelude.{◌≡◌};
 ghost use Rattle.records.specs.Lines.{LineRead};
 
 use crate::cuts::cut;

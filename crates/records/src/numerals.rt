@@ -1,5 +1,5 @@
 // Numbers as a file writes them.
-ghost use Rattle.std.specs.Prelude.{◌≡◌, MatchOption};
+ghost use Rattle.std.specs.Prelude.{MatchOption};
 ghost use Rattle.records.specs.Numerals.{Writes, IsNoNumber};
 
 /// The most digits of a number; `most_digits` in specs/Numerals.antt.

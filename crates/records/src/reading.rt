@@ -1,5 +1,4 @@
 // A file is read record by record.
-ghost use Rattle.std.specs.Prelude.{◌≡◌};
 ghost use Rattle.records.specs.Files.{Sized};
 ghost use Rattle.records.specs.Steps.{Step};
 

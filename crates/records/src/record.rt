@@ -1,5 +1,4 @@
 // A record, and how it is read from its line.
-ghost use Rattle.std.specs.Prelude.{◌≡◌};
 ghost use Rattle.records.specs.Records.{ReadsBack, RecordRead, TextRead};
 
 use crate::filling::fill;

@@ -1,5 +1,4 @@
 // A word of a line, as it came.
-ghost use Rattle.std.specs.Prelude.{◌≡◌, MatchResult};
 ghost use Rattle.records.specs.Readings.{IsWord, FigureRead};
 
 use crate::numerals::number;

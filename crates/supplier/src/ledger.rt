@@ -1,5 +1,5 @@
 // A ledger: a supplier's number, limits, book and days, which finds every cause of refusal itself.
-ghost use Rattle.std.specs.Prelude.{◌≡◌, ◌≤◌};
+ghost use Rattle.std.specs.Prelude.{◌≤◌};
 ghost use Rattle.supplier.specs.Orders.{term, Before};
 ghost use Rattle.supplier.specs.Books.{orders_of};
 

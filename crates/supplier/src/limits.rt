@@ -1,5 +1,5 @@
 // The limits of a supplier that finds its faults itself, as a table.
-ghost use Rattle.std.specs.Prelude.{◌≡◌, ℕ, ◌+◌, ◌<◌, ◌≤◌, cond, ◌∷◌, length};
+ghost use Rattle.std.specs.Prelude.{◌≡◌, length};
 ghost use Rattle.figures.specs.Days.{for_days, horizon};
 ghost use Rattle.supplier.specs.Limits.{High, Grows, told_limit};
 

@@ -1,5 +1,5 @@
 // What was ordered of a supplier, what it delivered, and what is still to come.
-ghost use Rattle.std.specs.Prelude.{◌≡◌, ℕ, ◌-◌};
+ghost use Rattle.std.specs.Prelude.{◌≡◌, ◌-◌};
 ghost use Rattle.figures.specs.Days.{window};
 ghost use Rattle.supplier.specs.Meaning.{Day};
 ghost use Rattle.two_vendors.specs.Balance.{Balanced, Counted};

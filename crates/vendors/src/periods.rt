@@ -1,5 +1,5 @@
 // Limits that rise by the same amount with each period begun.
-ghost use Rattle.std.specs.Prelude.{◌≡◌, ℕ, ◌+◌, ◌-◌, ◌*◌, ◌/◌, ◌<◌, ◌≤◌, length};
+ghost use Rattle.std.specs.Prelude.{◌*◌, ◌≤◌};
 ghost use Rattle.figures.specs.Days.{horizon, most};
 ghost use Rattle.vendors.specs.Periods.{Rises, periods};
 

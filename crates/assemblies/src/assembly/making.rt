@@ -1,5 +1,5 @@
 // The question and the making of an assembly.
-ghost use Rattle.std.specs.Prelude.{◌≡◌, ◌≤◌, [], ◌∷◌, IfNone};
+ghost use Rattle.std.specs.Prelude.{◌≤◌, [], ◌∷◌, IfNone};
 ghost use Rattle.figures.specs.Ranges.{AllIn};
 ghost use Rattle.supplier.specs.Numbers.{named};
 ghost use Rattle.layers.specs.Makings.{Given};

@@ -1,10 +1,8 @@
 // A delay at work as a supplier.
-ghost use Rattle.std.specs.Prelude.{◌≡◌, map, refl};
+ghost use Rattle.std.specs.Prelude.{map};
 ghost use Rattle.layers.specs.Sheets.{later};
-ghost use Rattle.delays.specs.Delays.{delayed, delay_layout, Late, delay_line};
-ghost use Rattle.std.proofs.Common.{arith, rules};
-ghost use Rattle.layers.proofs.Topped.{topped-length, shelves-later};
-ghost use Rattle.delays.specs.Carried.{refused-carried};
+ghost use Rattle.delays.specs.Delays.{delayed, delay_layout, Late};
+ghost use Rattle.delays.specs.DelayLaws.{delayed_sound, delayed_shelved};
 
 use crate::delay::Delaying;
 use layers::carry;
@@ -19,30 +17,11 @@ impl<S: Supplier> Supplier for Delaying<S> {
 
     ghost shelves = { λ s. map later (S.Supplier.shelves s.below) };
 
-    ghost sound = { λ s v.
-        let m = S.Supplier.meaning s.below in
-        let b = S.Supplier.sound s.below v.below_ok in
-        let t = b.service in
-        let l = topped-length (delay_line s.own.number s.own.delay m.service.quote m.service.book s.own.delivered) m.sheet in
-        record {
-          service = record {
-            near = v.near;
-            high = t.high;
-            grows = t.grows;
-            until = t.until;
-            long = t.long;
-            before = t.before;
-            refusals = λ q. refused-carried s.own.delay m.service q (m.service.refusal q) (t.refusals q);
-          };
-          some = omega arith;
-          few = omega arith;
-        } };
+    ghost sound = { λ s v. delayed_sound (S.Supplier.valid s.below) s.own (S.Supplier.meaning s.below) v (S.Supplier.sound s.below v.below_ok) };
 
-    ghost shelved = { λ s v.
-        let m = S.Supplier.meaning s.below in
-        shelves-later m _ _ refl (λ k h. omega arith) refl (S.Supplier.shelves s.below) (S.Supplier.shelved s.below v.below_ok) };
+    ghost shelved = { λ s v. delayed_shelved s.own (S.Supplier.meaning s.below) (S.Supplier.shelves s.below) (S.Supplier.shelved s.below v.below_ok) };
 
-    ghost enveloped = { Prim.search rules };
+    ghost enveloped = { λ s v. tt };
 
     fn quote(&self) -> u8 {
         self.below.quote().saturating_add(self.own.delay)

@@ -3,7 +3,6 @@ ghost use Rattle.std.specs.Prelude.{◌≡◌};
 ghost use Rattle.layers.specs.Idles.{idle_meaning, idle_layout, idled, nothing};
 ghost use Rattle.vendors.specs.Serving.{vendor_sound};
 ghost use Rattle.layers.specs.Resting.{shut_table};
-ghost use Rattle.std.proofs.Common.{rules, arith};
 
 use crate::idle::Idle;
 use figures::HORIZON;
@@ -39,9 +38,9 @@ impl Supplier for Idle {
 
     ghost sound = { λ s v. vendor_sound s.kind nothing s.source (shut_table s) };
 
-    ghost shelved = { first_of (Prim.search rules, Prim.grind (arith, Self.row.coded.inj)) };
+    ghost shelved = { λ s v. tt };
 
-    ghost enveloped = { first_of (Prim.search rules, Prim.grind (arith, Self.row.coded.inj)) };
+    ghost enveloped = { λ s v. tt };
 
     fn quote(&self) -> u8 {
         0

@@ -1,6 +1,6 @@
 // The bounds of an envelope as a table of limits.
-ghost use Rattle.std.specs.Prelude.{◌≡◌, ℕ, ◌≤◌, MatchBool};
-ghost use Rattle.figures.specs.Days.{horizon, for_days};
+ghost use Rattle.std.specs.Prelude.{MatchBool};
+ghost use Rattle.figures.specs.Days.{for_days};
 ghost use Rattle.stages.specs.StageMaking.{Copies, Under};
 
 use envelope::Envelope;

@@ -1,5 +1,5 @@
 // The question and the making of a stage.
-ghost use Rattle.std.specs.Prelude.{◌≡◌, ℕ, ◌≤◌, [], ◌∷◌, IfNone};
+ghost use Rattle.std.specs.Prelude.{◌≤◌, [], ◌∷◌, IfNone};
 ghost use Rattle.figures.specs.Days.{horizon, most, for_days};
 ghost use Rattle.figures.specs.Ranges.{AllIn};
 ghost use Rattle.supplier.specs.Numbers.{named};

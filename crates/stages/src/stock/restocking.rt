@@ -1,5 +1,4 @@
 // A stage's shelf over a day.
-ghost use Rattle.std.specs.Prelude.{◌≡◌};
 ghost use Rattle.stages.specs.Stocks.{Restocked};
 
 use crate::stock::Stock;

@@ -1,6 +1,6 @@
 // The first window that a next order would break.
-ghost use Rattle.std.specs.Prelude.{◌≡◌, ℕ, ◌+◌, ◌<◌, ◌≤◌, length};
-ghost use Rattle.figures.specs.Days.{for_days, horizon};
+ghost use Rattle.std.specs.Prelude.{◌≡◌};
+ghost use Rattle.figures.specs.Days.{for_days};
 ghost use Rattle.supplier.specs.Books.{orders_of};
 ghost use Rattle.supplier.specs.Windows.{first_broken};
 

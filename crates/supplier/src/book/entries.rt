@@ -1,5 +1,5 @@
 // A book is opened, takes an order in place, and tells its sums and the order due.
-ghost use Rattle.std.specs.Prelude.{◌≡◌, ℕ, ◌+◌, ◌-◌, ◌<◌, ◌≤◌, Bool, ◌∷◌, length, replicate, if◌then◌else◌, nat_le, slice_index};
+ghost use Rattle.std.specs.Prelude.{◌≡◌, ◌<◌, ◌≤◌, if◌then◌else◌, nat_le, slice_index};
 ghost use Rattle.figures.specs.Days.{horizon, most, near, window};
 ghost use Rattle.supplier.specs.Orders.{entered, due, no_orders};
 ghost use Rattle.supplier.specs.Books.{orders_of, BeforeNewest};

@@ -1,5 +1,5 @@
 // A ledger is opened, tells the refusal of an order, and takes a day.
-ghost use Rattle.std.specs.Prelude.{◌≡◌, ℕ, ◌+◌, ◌≤◌};
+ghost use Rattle.std.specs.Prelude.{◌≡◌, ◌+◌};
 ghost use Rattle.supplier.specs.Finders.{fault, over};
 ghost use Rattle.supplier.specs.Orders.{term};
 ghost use Rattle.supplier.specs.Ledgers.{Opened, refusal_of, RefusedPlainly, Entered};

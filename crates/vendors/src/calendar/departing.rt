@@ -1,5 +1,5 @@
 // When a calendar vendor ships: its departures, and how long an order waits for one.
-ghost use Rattle.std.specs.Prelude.{◌≡◌, ℕ, ◌+◌, ◌-◌, ◌%◌, ◌<◌, ◌≤◌, MatchOption};
+ghost use Rattle.std.specs.Prelude.{◌≡◌, ◌+◌, ◌<◌, ◌≤◌, MatchOption};
 ghost use Rattle.vendors.specs.Calendars.{Ships};
 ghost use Rattle.vendors.specs.Departures.{week, departures, wait, longest, Leaves};
 

