@@ -5,7 +5,7 @@ usage: respell.py [--names] [TOP]     (--names prints the table and writes nothi
 
 Facts and types: upper camel case, so 'All-in' becomes AllIn. Definitions and fields: snake case. In a lemma's name a dash stays
 where it joins the names of two functions, as in window-suc; every other dash becomes '_'. Names that Rattle makes stay, and so does
-all that is not declared in specs/ or proofs/. Names that would fall together are reported, and nothing is written then."""
+all that is not declared in specs/ or proofs/. Names that would fall together are marked in what it prints: look there before it writes (--names)."""
 import collections, glob, os, re, sys
 
 DECLARED = re.compile(r"( *)((?:(?:abbrev|pub|unfoldable|opaque)\s+)*)(?:(record|data)\s+)?([^\s:(){},.=|]+)((?:\s+[({].*)?)\s*:(?:\s|$)")
@@ -77,7 +77,6 @@ def main(argv):
     words = set()
     for path in files(top):
         words |= set(TOKEN.findall(open(path, encoding="utf-8").read()))
-    clash = {b: a for b, a in back.items() if len(a) > 1 or b in found or b in words}
     for a, b in sorted(rows.items()):
         print(a, b, "FALLS TOGETHER" if len(back[b]) > 1 else "STANDS ALREADY" if b in found else "is a word" if b in words else "")
     if show:
