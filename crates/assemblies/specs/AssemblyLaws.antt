@@ -8,9 +8,9 @@ use Rattle.supplier.specs.Books.{orders_of}
 use Rattle.supplier.proofs.Books.{orders-long}
 use Rattle.supplier.specs.Meaning.{Meaning, Sound}
 use Rattle.supplier.specs.Shelves.{Placed, Shelved, allowed}
-use Rattle.layers.proofs.Topped.{topped-length}
+use Rattle.layers.proofs.Topped.{sound-topped}
 use Rattle.assemblies.specs.declared.kits.Kits.{Kits}
-use Rattle.assemblies.specs.Assemblies.{assembled, scaled, Joined, assembly_line, shared}
+use Rattle.assemblies.specs.Assemblies.{assembled, scaled, Joined, shared}
 use Rattle.assemblies.specs.Scaling.{get-times, shared-left, shared-right, shared-grows, shared-small}
 use Rattle.assemblies.specs.Joining.{kits_refused, none_of}
 use Rattle.assemblies.specs.Scaled.{shelves-scaled, left_line, right_line}
@@ -23,26 +23,21 @@ assembled_sound okl okr own left right v sl sr =
     let orders = orders_of own.orders in
     let L = left.service.limit in
     let R = right.service.limit in
-    let l = topped-length (assembly_line own.number own.left own.right left.service.quote right.service.quote orders own.delivered) (left.sheet ++ right.sheet) in
-    record {
-      service = record {
-        near = let a = ls.near in let b = rs.near in omega arith;
-        high = λ k a b. shared-small L R own.left own.right k most own.left_some (ls.high k a b);
-        grows = λ k a b. shared-grows L R own.left own.right k (k + 1) own.left_some own.right_some (ls.grows k a b) (rs.grows k a b);
-        until = own.until;
-        long = orders-long own.orders;
-        before = λ j h.
-            none_of own.left (slice_index orders j) own.left_some
-            (sym (get-times own.left orders j) ∙ ap (λ xs. slice_index xs j) (sym v.left_side.same) ∙ ls.before j (let e = v.left_side.together in omega arith));
-        refusals = λ q.
-            kits_refused own.number own.left own.right own.days orders left.service right.service own.left_some own.right_some
-            (record { allows = shared-left L R own.left own.right; same = v.left_side.same; together = v.left_side.together })
-            (record { allows = shared-right L R own.left own.right; same = v.right_side.same; together = v.right_side.together })
-            q own.until (ls.refusals (own.left * q)) (rs.refusals (own.right * q));
-      };
-      some = omega arith;
-      few = omega arith;
-    }
+    sound-topped _ _ (left.sheet ++ right.sheet) (record {
+      near = let a = ls.near in let b = rs.near in omega arith;
+      high = λ k a b. shared-small L R own.left own.right k most own.left_some (ls.high k a b);
+      grows = λ k a b. shared-grows L R own.left own.right k (k + 1) own.left_some own.right_some (ls.grows k a b) (rs.grows k a b);
+      until = own.until;
+      long = orders-long own.orders;
+      before = λ j h.
+          none_of own.left (slice_index orders j) own.left_some
+          (sym (get-times own.left orders j) ∙ ap (λ xs. slice_index xs j) (sym v.left_side.same) ∙ ls.before j (let e = v.left_side.together in omega arith));
+      refusals = λ q.
+          kits_refused own.number own.left own.right own.days orders left.service right.service own.left_some own.right_some
+          (record { allows = shared-left L R own.left own.right; same = v.left_side.same; together = v.left_side.together })
+          (record { allows = shared-right L R own.left own.right; same = v.right_side.same; together = v.right_side.together })
+          q own.until (ls.refusals (own.left * q)) (rs.refusals (own.right * q));
+    })
 
 -- so many kits need no more of a side than it allows
 side_allowed : (c : ℕ) (limit both : ℕ → ℕ) → ((k : ℕ) → c * both k ≤ limit k) → (k : ℕ) → c * allowed both k ≤ allowed limit k

@@ -5,28 +5,23 @@ use Rattle.std.proofs.Common.{arith}
 use Rattle.supplier.specs.Meaning.{Meaning, Sound}
 use Rattle.supplier.specs.Shelves.{Placed, Shelved}
 use Rattle.layers.specs.Sheets.{later}
-use Rattle.layers.proofs.Topped.{topped-length, shelves-later}
+use Rattle.layers.proofs.Topped.{sound-topped, shelves-later}
 use Rattle.delays.specs.declared.transit.Transit.{Transit}
-use Rattle.delays.specs.Delays.{delayed, delay_line, Late}
+use Rattle.delays.specs.Delays.{delayed, Late}
 use Rattle.delays.specs.Carried.{refused-carried}
 
 pub delayed_sound : (ok : Type 0) (own : Transit) (m : Meaning) → Late ok m own → Sound m → Sound (delayed own m)
 delayed_sound ok own m late below =
     let t = below.service in
-    let l = topped-length (delay_line own.number own.delay m.service.quote m.service.book own.delivered) m.sheet in
-    record {
-      service = record {
-        near = late.near;
-        high = t.high;
-        grows = t.grows;
-        until = t.until;
-        long = t.long;
-        before = t.before;
-        refusals = λ q. refused-carried own.delay m.service q (m.service.refusal q) (t.refusals q);
-      };
-      some = omega arith;
-      few = omega arith;
-    }
+    sound-topped _ _ m.sheet (record {
+      near = late.near;
+      high = t.high;
+      grows = t.grows;
+      until = t.until;
+      long = t.long;
+      before = t.before;
+      refusals = λ q. refused-carried own.delay m.service q (m.service.refusal q) (t.refusals q);
+    })
 
 pub delayed_shelved : (own : Transit) (m : Meaning) (ps : List Placed) → AllByRecursion (Shelved m) ps →
     AllByRecursion (Shelved (delayed own m)) (map later ps)

@@ -2,6 +2,7 @@
 use Rattle.std.specs.Prelude.{◌≡◌, ℕ, ◌+◌, ◌*◌, ◌<◌, ◌≤◌, Option}
 use Rattle.figures.specs.declared.ranges.Range.{Range}
 use Rattle.figures.specs.Days.{horizon, most, near}
+use Rattle.figures.specs.Joins.{Joins}
 
 -- the most that any k days in a row ask for, and the mean of a day
 pub record Curve : Type 0 where
@@ -23,7 +24,7 @@ pub record Lawful (c : Curve) : Type 0 where
   -- the bound covers k days at the mean
   pub carries : (k : ℕ) → k ≤ horizon → k * c.mean ≤ c.bound k
   -- the bound of a stretch is at most those of its two parts together
-  pub joins : (i j : ℕ) → i + j ≤ horizon → c.bound (i + j) ≤ c.bound i + c.bound j
+  pub joins : Joins c.bound
 
 -- the bound as a reading tells it: none past the horizon
 abbrev pub told : Curve → ℕ → Option ℕ

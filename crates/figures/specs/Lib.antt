@@ -1,4 +1,5 @@
 pub mod Days
+pub mod Joins
 pub mod Least
 pub mod Ranges
 pub mod Refusals

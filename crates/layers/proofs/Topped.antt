@@ -6,7 +6,7 @@ use Rattle.std.proofs.lemmas.List.{length-take}
 use Rattle.std.proofs.lemmas.Option.{slice_get_past}
 use Rattle.figures.specs.Days.{horizon}
 use Rattle.supplier.specs.declared.line.Line.{Line}
-use Rattle.supplier.specs.Meaning.{Meaning, Laid}
+use Rattle.supplier.specs.Meaning.{Service, Meaning, Steady, Sound, Laid}
 use Rattle.supplier.specs.Shelves.{Placed, Shelved, Tells, held, allowed, figures_of}
 use Rattle.layers.specs.Sheets.{topped, later}
 
@@ -29,6 +29,10 @@ topped-cut line below i h = let l = length-take 1000 (line ∷ below) in slice_g
 
 pub topped-length : (line : Line) (below : List Line) → length (topped line below) ≡ min (length below + 1) 1000
 topped-length line below = let l = length-take 1000 (line ∷ below) in omega arith
+
+-- a service that is steady, with a line over the sheets below
+pub sound-topped : (s : Service) (line : Line) (below : List Line) → Steady s → Sound (record { service = s; sheet = topped line below })
+sound-topped s line below steady = let l = topped-length line below in record { service = steady; some = omega arith; few = omega arith }
 
 -- a sheet below that is laid out, under a line
 pub laid_topped : (line : Line) (o : Option (List Line)) (sheet : List Line) → Laid o sheet → Laid (option_map (topped line) o) (topped line sheet)

@@ -4,6 +4,7 @@ use Rattle.std.specs.List.{AllByRecursion}
 use Rattle.std.proofs.lemmas.Bool.{cases_lt}
 use Rattle.std.proofs.ByRecursion.{All-weaker, All-map}
 use Rattle.figures.specs.Days.{horizon, total, window, span}
+use Rattle.figures.specs.Joins.{Joins}
 use Rattle.supplier.specs.declared.fault.Fault.{Fault}
 use Rattle.supplier.specs.Orders.{Fits}
 use Rattle.supplier.specs.Meaning.{Meaning, Layout, Sound, RefusedBy}
@@ -58,7 +59,7 @@ module _ (bound : ℕ → ℕ) (none : bound 0 ≡ 0) (grows : (k : ℕ) → k <
       let x = ap bound e in
       omega arith
 
-  module _ (joins : (i j : ℕ) → i + j ≤ horizon → bound (i + j) ≤ bound i + bound j) where
+  module _ (joins : Joins bound) where
     -- the next order of the climbing list breaks no window
     climb_fits : (n : ℕ) → suc n ≤ horizon → Fits bound (climb bound n) (bound (suc n) - bound n)
     climb_fits n h k a b =

@@ -1,5 +1,5 @@
 // Calls are made one by one, and each is told with its answer.
-ghost use Rattle.std.specs.Prelude.{◌≡◌, ℕ, List, IfOk, OnErr};
+ghost use Rattle.std.specs.Prelude.{◌≡◌, ℕ, List, map, IfOk, OnErr};
 ghost use Rattle.supplier.specs.Shelves.{figures_of};
 ghost use Rattle.pile.specs.Events.{asked};
 ghost use Rattle.pile.specs.Steps.{Answered, state, terms};
@@ -36,6 +36,7 @@ pub fn replay<S: Supplier>(
     supplier: &mut S,
     calls: &[Call],
 ) -> Result<Vec<Event>, AllocError>
+    ensures each { IfOk result (λ v. map asked v.items ≡ calls.now) }
     ensures unmade { OnErr result (supplier.new ≡ supplier.old) }
     ensures stays { S.Supplier.valid supplier.old → S.Supplier.valid supplier.new }
     ensures goes_on { S.Supplier.valid supplier.old → (orders : List ℕ)

@@ -1,12 +1,12 @@
 -- A stage that passes its question is tied to what lies below from the start.
 use Rattle.std.proofs.Common.{◌≡◌, ℕ, ◌+◌, ◌-◌, List, get_or, take, drop, sym, ap, ◌∙◌, arith}
 use Rattle.figures.specs.Days.{horizon, for_days, total, span}
+use Rattle.figures.specs.Joins.{Joins}
 use Rattle.figures.proofs.Totals.{zeros_get, zeros_total}
 use Rattle.supplier.specs.Orders.{no_orders}
 use Rattle.supplier.specs.Meaning.{Meaning, Sound}
 use Rattle.supplier.proofs.Books.{fresh}
 use Rattle.stages.specs.declared.stock.Stock.{Stock}
-use Rattle.stages.specs.Joins.{Joins}
 use Rattle.stages.specs.Stages.{Tied, book_of, bound_of}
 use Rattle.stages.specs.StageMaking.{Copies, StagePasses, Stocked}
 

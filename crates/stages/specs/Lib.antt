@@ -1,4 +1,3 @@
-pub mod Joins
 pub mod Stages
 pub mod Stocks
 pub mod StageMaking

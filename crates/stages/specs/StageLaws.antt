@@ -9,21 +9,17 @@ use Rattle.supplier.proofs.Windows.{limit-high, limit-grows}
 use Rattle.supplier.proofs.Books.{orders-long}
 use Rattle.supplier.proofs.Services.{finder_steady}
 use Rattle.layers.specs.Sheets.{later}
-use Rattle.layers.proofs.Topped.{topped-length, shelves-later}
+use Rattle.layers.proofs.Topped.{sound-topped, shelves-later}
 use Rattle.stages.specs.declared.stock.Stock.{Stock}
-use Rattle.stages.specs.Stages.{staged, own_shelf, bound_of, book_of, stage_line, Tied}
+use Rattle.stages.specs.Stages.{staged, own_shelf, bound_of, book_of, Tied}
 
-pub staged_sound : (own : Stock) (m : Meaning) → Sound m → Sound (staged own m)
-staged_sound own m below =
-    let l = topped-length (stage_line own.ledger.number own.base own.quote (m.service.quote + own.process) (book_of own) own.delivered) m.sheet in
-    record {
-      service = finder_steady own.ledger.number own.quote (bound_of own) own.ledger.days (book_of own) own.near
-          (λ k a b. limit-high own.ledger.limits.bounds own.ledger.limits.high k)
-          (limit-grows own.ledger.limits.bounds own.ledger.limits.grows)
-          own.ledger.until (orders-long own.ledger.book) own.ledger.before;
-      some = omega arith;
-      few = omega arith;
-    }
+pub staged_sound : (own : Stock) (m : Meaning) → Sound (staged own m)
+staged_sound own m =
+    sound-topped _ _ m.sheet
+    (finder_steady own.ledger.number own.quote (bound_of own) own.ledger.days (book_of own) own.near
+    (λ k a b. limit-high own.ledger.limits.bounds own.ledger.limits.high k)
+    (limit-grows own.ledger.limits.bounds own.ledger.limits.grows)
+    own.ledger.until (orders-long own.ledger.book) own.ledger.before)
 
 allowed_bound : (own : Stock) (k : ℕ) → allowed (bound_of own) k ≡ bound_of own k
 allowed_bound own zero = refl

@@ -1,7 +1,7 @@
 // The own figures of a stage.
 ghost use Rattle.std.specs.Prelude.{◌≤◌};
 ghost use Rattle.figures.specs.Days.{horizon, most, for_days};
-ghost use Rattle.stages.specs.Joins.{Joins};
+ghost use Rattle.figures.specs.Joins.{Joins};
 
 use supplier::{Book, Ledger};
 

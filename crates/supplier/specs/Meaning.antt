@@ -32,16 +32,16 @@ abbrev pub Refused : Service → ℕ → Option Fault → Type 0
 Refused s q None = (s.days < term) × Fits s.limit s.book q
 Refused s q (Some f) = (f.day ≡ s.days + 1) × (f.layers ≤ 1000) × Caused s q f f.cause
 
--- The same of a limit, the days taken and their orders.
+-- a service of which the limit, the days taken and their orders count alone
+abbrev pub bare : (ℕ → ℕ) → ℕ → List ℕ → Service
+bare limit days orders = record { quote = 0; limit = limit; days = days; book = orders; refusal = λ _. None }
+
+-- The same of any list of orders.
 abbrev pub CausedBy : (ℕ → ℕ) → ℕ → List ℕ → ℕ → Fault → Cause → Type 0
-CausedBy limit days orders q f TermSpent = (days ≡ term) × (f.window ≡ 0) × (f.bound ≡ term) × (f.sum ≡ days)
-CausedBy limit days orders q f OverDay = (days < term) × (limit 1 < q) × (f.window ≡ 1)
-CausedBy limit days orders q f OverWindow =
-    (days < term) × (q ≤ limit 1) × Breaks limit orders q × (2 ≤ f.window) × (f.window ≤ horizon)
+CausedBy limit days orders = Caused (bare limit days orders)
 
 abbrev pub RefusedBy : (ℕ → ℕ) → ℕ → List ℕ → ℕ → Option Fault → Type 0
-RefusedBy limit days orders q None = (days < term) × Fits limit orders q
-RefusedBy limit days orders q (Some f) = (f.day ≡ days + 1) × (f.layers ≤ 1000) × CausedBy limit days orders q f f.cause
+RefusedBy limit days orders = Refused (bare limit days orders)
 
 -- what holds of every service
 pub record Steady (s : Service) : Type 0 where

@@ -1,7 +1,8 @@
 -- The shelves of the stages at and below a supplier.
-use Rattle.std.specs.Prelude.{◌≡◌, ℕ, zero, suc, ◌+◌, ◌-◌, ◌*◌, ◌<◌, ◌≤◌, List, [], ◌∷◌, map, Some, None, Option}
+use Rattle.std.specs.Prelude.{◌≡◌, ℕ, zero, suc, ◌-◌, ◌*◌, ◌<◌, ◌≤◌, List, [], ◌∷◌, map, Some, None, Option}
 use Rattle.std.specs.List.{slice_get}
 use Rattle.figures.specs.Days.{horizon, span}
+use Rattle.figures.specs.Joins.{Joins}
 use Rattle.supplier.specs.declared.line.Kind.TheVariants as kind
 use Rattle.supplier.specs.declared.line.Line.{Line}
 use Rattle.supplier.specs.Meaning.{Meaning}
@@ -58,7 +59,6 @@ OwnFirst quote (h ∷ hs) = (h.upto ≡ quote) × (h.pieces ≡ 1)
 -- A stage: its limit is its envelope, of no days to the horizon, and its own shelf stands first.
 pub record Enveloped (m : Meaning) (shelves : List Placed) (bound : ℕ → ℕ) : Type 0 where
   pub none : bound 0 ≡ 0
-  -- the bound of a stretch is at most those of its two parts together
-  pub joins : (i j : ℕ) → i + j ≤ horizon → bound (i + j) ≤ bound i + bound j
+  pub joins : Joins bound
   pub same : (k : ℕ) → 1 ≤ k → k ≤ horizon → m.service.limit k ≡ bound k
   pub own : OwnFirst m.service.quote (figures_of shelves)

@@ -4,7 +4,7 @@ ghost use Rattle.figures.specs.Days.{horizon, most, for_days};
 ghost use Rattle.figures.specs.Ranges.{AllIn};
 ghost use Rattle.supplier.specs.Numbers.{named};
 ghost use Rattle.layers.specs.Makings.{Given};
-ghost use Rattle.stages.specs.Joins.{Joins};
+ghost use Rattle.figures.specs.Joins.{Joins};
 ghost use Rattle.stages.specs.StageMaking.{stage_ranges, StageAsked, StagePasses, StageNew, Stocked};
 
 use crate::stage::Staging;

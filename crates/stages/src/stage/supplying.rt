@@ -19,7 +19,7 @@ impl<S: Supplier> Supplier for Staging<S> {
 
     ghost envelope = { λ s. Some (bound_of s.own) };
 
-    ghost sound = { λ s v. staged_sound s.own (S.Supplier.meaning s.below) (S.Supplier.sound s.below v.below_ok) };
+    ghost sound = { λ s v. staged_sound s.own (S.Supplier.meaning s.below) };
 
     ghost shelved = { λ s v. staged_shelved (S.Supplier.valid s.below) s.own (S.Supplier.meaning s.below) (S.Supplier.shelves s.below) v (S.Supplier.shelved s.below v.below_ok) };
 

@@ -1,12 +1,11 @@
-use Rattle.std.proofs.Common.{◌+◌, ◌<◌, List, [], ◌∷◌, ◌++◌, length, take, vec_items, sym, refl, ◌∙◌, subst, arith}
+use Rattle.std.proofs.Common.{◌<◌, List, [], length, map, take, vec_items, sym, refl, ap, ◌≡◌, ◌∙◌, subst, arith}
 use Rattle.std.proofs.lemmas.List.{take_all, take_more}
-use Rattle.pile.specs.declared.calls.Call.{Call}
 use Rattle.pile.specs.declared.calls.Call.TheVariants.{Trial}
 use Rattle.pile.specs.declared.calls.Event.{Event}
-use Rattle.pile.specs.Runs.{Run}
+use Rattle.pile.specs.Events.{asked}
 use Rattle.pile.specs.Steps.{state, terms}
 use Rattle.pile.proofs.Showing.{shown, stands_new}
-use Rattle.pile.proofs.Running.{Running, running_none, running_more, running_all}
+use Rattle.pile.proofs.Running.{Running, asked-push, running_none, running_more, running_all}
 use Rattle.pile.proofs.Summits.{summits}
 use Rattle.pile.proofs.replaying.replay.Goals as goal
 
@@ -28,7 +27,8 @@ loop-call-init g c =
       e.capacity,
       λ v. v,
       λ v. refl,
-      λ v orders s. subst (λ (es : List Event). Running t orders (state m placed) [] es (state m placed)) (sym e.items) (running_none t orders (state m placed) s),
+      λ v orders s. subst (λ (es : List Event). Running t orders (state m placed) es (state m placed)) (sym e.items) (running_none t orders (state m placed) s),
+      ap (map asked) e.items,
     )
 
 pub loop-call-preserved : goal.loop-call-preserved
@@ -57,10 +57,9 @@ loop-call-preserved g c =
           let p = shown t _ (state (g.S.Supplier.meaning a) (g.S.Supplier.shelves a)) (state (g.S.Supplier.meaning b) (g.S.Supplier.shelves b))
           r.stands (g.met.S.Supplier.sound a o) (g.met.S.Supplier.sound b o') (g.met.S.Supplier.shelved b o') (did.stocks o)
           (g.S.Supplier.layout a) e (inv.3 v) (did.answered o) in
-          let x = running_more t orders (state m placed) _ (state (g.S.Supplier.meaning b) (g.S.Supplier.shelves b)) (take i calls) _ es e r did.call p in
-          subst (λ (xs : List Event). Running t orders (state m placed) (take (i + 1) calls) xs (state (g.S.Supplier.meaning b) (g.S.Supplier.shelves b))) (sym pushed.items)
-          (subst (λ (cs : List Call). Running t orders (state m placed) cs (es ++ e ∷ []) (state (g.S.Supplier.meaning b) (g.S.Supplier.shelves b)))
-          (sym (take_more calls i (Trial 0) l)) x),
+          let x = running_more t orders (state m placed) _ (state (g.S.Supplier.meaning b) (g.S.Supplier.shelves b)) es e r p in
+          subst (λ (xs : List Event). Running t orders (state m placed) xs (state (g.S.Supplier.meaning b) (g.S.Supplier.shelves b))) (sym pushed.items) x,
+      ap (map asked) pushed.items ∙ asked-push (take i calls) _ es e inv.5 did.call ∙ sym (take_more calls i (Trial 0) l),
     )
 
 pub returns : goal.returns
@@ -75,17 +74,17 @@ returns g c =
     let inv = c.loop-call.invariant in
     let calls = c.args.calls.now in
     let events = vec_items c.loop-call.events in
-    let all = take_all c.loop-call.call-index calls (omega arith) in
+    let each : map asked events ≡ calls = inv.5 ∙ take_all c.loop-call.call-index calls (omega arith) in
     record {
+      each = each;
       unmade = tt;
       stays = inv.2;
-      goes_on = λ v orders s. subst (λ (cs : List Call). Run t orders (state m placed) cs events k) all (running_all t orders (state m placed) _ events k (inv.4 v orders s));
+      goes_on = λ v orders s. running_all t orders (state m placed) calls events k each (inv.4 v orders s);
       keeps = λ v n.
           let sound = g.met.S.Supplier.sound a v in
           let shelved = g.met.S.Supplier.shelved a v in
           let s = stands_new m layout placed sound shelved n in
-          let run : Run t [] (state m placed) calls events k =
-          subst (λ (cs : List Call). Run t [] (state m placed) cs events k) all (running_all t [] (state m placed) _ events k (inv.4 v [] s)) in
+          let run = running_all t [] (state m placed) calls events k each (inv.4 v [] s) in
           record {
             starts = s;
             run = run;

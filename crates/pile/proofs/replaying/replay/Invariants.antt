@@ -1,4 +1,5 @@
-use Rattle.std.proofs.Common.{◌≡◌, ℕ, ◌≤◌, List, length, take, vec_items, vec_len, vec_capacity}
+use Rattle.std.proofs.Common.{◌≡◌, ℕ, ◌≤◌, List, length, map, take, vec_items, vec_len, vec_capacity}
+use Rattle.pile.specs.Events.{asked}
 use Rattle.pile.specs.Runs.{Stands}
 use Rattle.pile.specs.Steps.{state, terms}
 use Rattle.pile.proofs.Running.{Running}
@@ -14,4 +15,5 @@ invariant-loop-call g l =
     (state (g.S.Supplier.meaning l.initial.supplier) (g.S.Supplier.shelves l.initial.supplier)) →
     Running (terms (g.S.Supplier.meaning l.initial.supplier) (g.S.Supplier.layout l.initial.supplier) (g.S.Supplier.shelves l.initial.supplier)) orders
     (state (g.S.Supplier.meaning l.initial.supplier) (g.S.Supplier.shelves l.initial.supplier))
-    (take l.call-index l.calls) (vec_items l.events) (state (g.S.Supplier.meaning l.supplier) (g.S.Supplier.shelves l.supplier)))
+    (vec_items l.events) (state (g.S.Supplier.meaning l.supplier) (g.S.Supplier.shelves l.supplier)))
+    × (map asked (vec_items l.events) ≡ take l.call-index l.calls)

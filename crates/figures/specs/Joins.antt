@@ -1,4 +1,4 @@
--- The law of envelopes that a stage's limit keeps.
+-- What a bound of every stretch of days keeps where two stretches are joined.
 use Rattle.std.specs.Prelude.{ℕ, ◌+◌, ◌≤◌}
 use Rattle.figures.specs.Days.{horizon}
 
