@@ -1,9 +1,12 @@
 // A record, and how it is read from its line.
+ghost use Rattle.std.specs.Prelude.{◌≡◌, length, MatchResult};
+ghost use Rattle.records.specs.Fields.{Filled, FaultyFields};
 ghost use Rattle.records.specs.Records.{ReadsBack, RecordRead, TextRead};
 
 use crate::filling::fill;
 use crate::kind::RecordKind;
 use crate::record_fault::RecordFault;
+use figures::Range;
 
 /// The figures of a record, in the order of its fields.
 #[derive(Clone, Copy)]
@@ -17,47 +20,33 @@ pub enum Record {
     Day([u64; 1]),
 }
 
+/// The figures that the text after a mark writes, one for each range.
+fn figures_of<const N: usize>(
+    text: &[u8],
+    number: usize,
+    ranges: &[Range],
+) -> Result<[u64; N], RecordFault>
+    requires { length ranges.now ≡ N }
+    ensures { MatchResult result (Filled ranges.now text.now) (FaultyFields ranges.now number text.now) }
+{
+    let mut figures = [0; N];
+    fill(text, number, ranges, &mut figures)?;
+    Ok(figures)
+}
+
 /// The record of this kind that the text after its mark writes.
 fn text_record(text: &[u8], number: usize, kind: RecordKind) -> Result<Record, RecordFault>
     ensures { TextRead kind number text.now result }
 {
     let ranges = kind.ranges();
     match kind {
-        RecordKind::Calendar => {
-            let mut figures = [0; 4];
-            fill(text, number, ranges, &mut figures)?;
-            Ok(Record::Calendar(figures))
-        }
-        RecordKind::Delay => {
-            let mut figures = [0; 2];
-            fill(text, number, ranges, &mut figures)?;
-            Ok(Record::Delay(figures))
-        }
-        RecordKind::Pipeline => {
-            let mut figures = [0; 3];
-            fill(text, number, ranges, &mut figures)?;
-            Ok(Record::Pipeline(figures))
-        }
-        RecordKind::RootStage => {
-            let mut figures = [0; 6];
-            fill(text, number, ranges, &mut figures)?;
-            Ok(Record::RootStage(figures))
-        }
-        RecordKind::Assembly => {
-            let mut figures = [0; 3];
-            fill(text, number, ranges, &mut figures)?;
-            Ok(Record::Assembly(figures))
-        }
-        RecordKind::BucketStage => {
-            let mut figures = [0; 7];
-            fill(text, number, ranges, &mut figures)?;
-            Ok(Record::BucketStage(figures))
-        }
-        RecordKind::Day => {
-            let mut figures = [0; 1];
-            fill(text, number, ranges, &mut figures)?;
-            Ok(Record::Day(figures))
-        }
+        RecordKind::Calendar => Ok(Record::Calendar(figures_of(text, number, ranges)?)),
+        RecordKind::Delay => Ok(Record::Delay(figures_of(text, number, ranges)?)),
+        RecordKind::Pipeline => Ok(Record::Pipeline(figures_of(text, number, ranges)?)),
+        RecordKind::RootStage => Ok(Record::RootStage(figures_of(text, number, ranges)?)),
+        RecordKind::Assembly => Ok(Record::Assembly(figures_of(text, number, ranges)?)),
+        RecordKind::BucketStage => Ok(Record::BucketStage(figures_of(text, number, ranges)?)),
+        RecordKind::Day => Ok(Record::Day(figures_of(text, number, ranges)?)),
     }
 }
 
