@@ -6,7 +6,7 @@ mod questions;
 mod ranges;
 mod refusals;
 
-pub use horizon::{HORIZON, MOST_PIECES};
+pub use horizon::{HORIZON, MOST_PIECES, within_horizon};
 pub use questions::range_refusal;
 pub use ranges::{Range, first_out};
 pub use refusals::Refusal;

@@ -8,8 +8,5 @@ use crate::refusals::Refusal;
 pub fn range_refusal(figures: &[u64], ranges: &[Range]) -> Option<Refusal>
     ensures { Answered ranges.now figures.now NoLaw result }
 {
-    match first_out(figures, ranges) {
-        Some(place) => Some(Refusal::OutOfRange(place)),
-        None => None,
-    }
+    first_out(figures, ranges).map(Refusal::OutOfRange)
 }

@@ -23,10 +23,9 @@ impl Range {
 pub fn first_out(figures: &[u64], ranges: &[Range]) -> Option<usize>
     ensures { MatchOption result (AllIn ranges.now figures.now) (λ p. FirstOut ranges.now figures.now p) }
 {
-    for (i, figure) in figures.iter().enumerate() {
-        if i < ranges.len() && !ranges[i].holds(*figure) {
-            return Some(i + 1);
-        }
-    }
-    None
+    figures
+        .iter()
+        .zip(ranges)
+        .position(|(figure, range)| !range.holds(*figure))
+        .map(|i| i + 1)
 }
