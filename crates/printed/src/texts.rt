@@ -16,12 +16,14 @@ impl fmt::Display for DayLine {
     ghost output = { λ x. Some (line_text x.day x.line) };
 
     fn fmt<W: fmt::Write>(&self, f: &mut fmt::Formatter<W>) -> fmt::Result {
-        let day = self.day;
-        let number = self.line.number;
-        let kind = self.line.kind.letter();
-        let order = self.line.order;
-        let delivery = self.line.delivery;
-        let held = self.line.held;
+        let DayLine { day, line } = *self;
+        let Line {
+            number,
+            kind,
+            order,
+            delivery,
+            held,
+        } = line;
         write!(f, "LN {day} {number} {kind} {order} {delivery} {held}")
     }
 }
@@ -34,13 +36,15 @@ impl fmt::Display for RefusedDay {
     ghost output = { λ x. Some (fault_text x.0) };
 
     fn fmt<W: fmt::Write>(&self, f: &mut fmt::Formatter<W>) -> fmt::Result {
-        let cause = self.0.cause.number();
-        let number = self.0.number;
-        let day = self.0.day;
-        let window = self.0.window;
-        let bound = self.0.bound;
-        let sum = self.0.sum;
-        let layers = self.0.layers;
+        let Fault {
+            cause,
+            number,
+            day,
+            window,
+            bound,
+            sum,
+            layers,
+        } = self.0;
         write!(
             f,
             "RF {cause} {number} {day} {window} {bound} {sum} {layers}"

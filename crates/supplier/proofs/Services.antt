@@ -9,12 +9,12 @@ use Rattle.supplier.specs.declared.fault.Fault.{Fault}
 use Rattle.supplier.specs.Orders.{term, Before, Fits}
 use Rattle.supplier.specs.Limits.{told_limit}
 use Rattle.supplier.specs.Finders.{finds, finder, Plain, Found}
-use Rattle.supplier.specs.Meaning.{Steady, Refused, Caused, RefusedBy, CausedBy}
+use Rattle.supplier.specs.Meaning.{most_layers, Steady, Refused, Caused, RefusedBy, CausedBy}
 use Rattle.supplier.proofs.Finders.{finds_plain}
 
 module _ (number quote : ℕ) (limit : ℕ → ℕ) (days : ℕ) (book : List ℕ) where
   found_refused : (q : ℕ) (f : Fault) (cause : Cause) → Found number limit days book q f cause →
-      (f.day ≡ days + 1) × (f.layers ≤ 1000) × Caused (finder number quote limit days book) q f cause
+      (f.day ≡ days + 1) × (f.layers ≤ most_layers) × Caused (finder number quote limit days book) q f cause
   found_refused q f TermSpent (e, g) = (
     ap (λ x. x.day) g,
     let l : f.layers ≡ 0 = ap (λ x. x.layers) g in omega arith,

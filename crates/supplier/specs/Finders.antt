@@ -15,9 +15,13 @@ abbrev pub fault : Cause → ℕ → ℕ → ℕ → ℕ → ℕ → Fault
 fault cause number day window bound sum =
     record { cause = cause; number = number; day = day; window = window; bound = bound; sum = sum; layers = 0 }
 
--- the fault where this window is the first that an order breaks
+-- the fault of this day where this window is the first that its order breaks
+abbrev pub over_on : ℕ → ℕ → Broken → Fault
+over_on number day b = fault (cond (b.window == 1) OverDay OverWindow) number day b.window b.bound b.sum
+
+-- the same after so many days
 abbrev pub over : ℕ → ℕ → Broken → Fault
-over number days b = fault (cond (b.window == 1) OverDay OverWindow) number (days + 1) b.window b.bound b.sum
+over number days b = over_on number (days + 1) b
 
 -- what a finder with this number, these limits, days and orders answers to q
 abbrev pub finds : ℕ → (ℕ → ℕ) → ℕ → List ℕ → ℕ → Option Fault

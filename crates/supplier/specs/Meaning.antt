@@ -27,10 +27,14 @@ Caused s q f OverDay = (s.days < term) × (s.limit 1 < q) × (f.window ≡ 1)
 Caused s q f OverWindow =
     (s.days < term) × (q ≤ s.limit 1) × Breaks s.limit s.book q × (2 ≤ f.window) × (f.window ≤ horizon)
 
+-- the most layers that a fault counts: it stands for that many or more
+abbrev pub most_layers : ℕ
+most_layers = 1000
+
 -- A refusal exists exactly when the term is spent or the order breaks a window.
 abbrev pub Refused : Service → ℕ → Option Fault → Type 0
 Refused s q None = (s.days < term) × Fits s.limit s.book q
-Refused s q (Some f) = (f.day ≡ s.days + 1) × (f.layers ≤ 1000) × Caused s q f f.cause
+Refused s q (Some f) = (f.day ≡ s.days + 1) × (f.layers ≤ most_layers) × Caused s q f f.cause
 
 -- a service of which the limit, the days taken and their orders count alone
 abbrev pub bare : (ℕ → ℕ) → ℕ → List ℕ → Service
@@ -61,7 +65,7 @@ most_lines = 1000
 pub record Sound (m : Meaning) : Type 0 where
   pub service : Steady m.service
   pub some : 1 ≤ length m.sheet
-  pub few : length m.sheet ≤ 1000
+  pub few : length m.sheet ≤ most_lines
 
 -- How a supplier's sheet follows from the orders up to the day, the newest first: none where that is not told.
 abbrev pub Layout : Type 0

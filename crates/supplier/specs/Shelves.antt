@@ -5,7 +5,7 @@ use Rattle.figures.specs.Days.{horizon, span}
 use Rattle.figures.specs.Joins.{Joins}
 use Rattle.supplier.specs.declared.line.Kind.TheVariants as kind
 use Rattle.supplier.specs.declared.line.Line.{Line}
-use Rattle.supplier.specs.Meaning.{Meaning}
+use Rattle.supplier.specs.Meaning.{Meaning, most_lines}
 
 -- A stage's shelf, by figures that never change: its base stock, the days that it is stocked for,
 -- and its pieces for each piece ordered here.
@@ -49,7 +49,7 @@ pub record Shelved (m : Meaning) (p : Placed) : Type 0 where
   -- the base stock covers the most pieces of the net time
   pub room : p.shelf.pieces * allowed m.service.limit (p.shelf.from - p.shelf.upto) ≤ p.shelf.base
   -- the line that is told at its place is its own
-  pub told : p.place < 1000 → Tells (slice_get m.sheet p.place) (held p.shelf m.service.book)
+  pub told : p.place < most_lines → Tells (slice_get m.sheet p.place) (held p.shelf m.service.book)
 
 -- the first shelf is that of the supplier itself: a stage that delivers from it on the quoted day
 abbrev pub OwnFirst : ℕ → List Shelf → Type 0

@@ -11,7 +11,7 @@ mod supplier;
 
 pub use book::Book;
 pub use book::broken::Broken;
-pub use fault::{Cause, Fault};
+pub use fault::{Cause, Fault, MOST_LAYERS};
 pub use ledger::{Ledger, TERM};
 pub use limits::Limits;
 pub use line::{Kind, Line, MOST_LINES};

@@ -19,10 +19,7 @@ impl Limits {
     pub fn told(&self, k: u8) -> Option<u64>
         ensures { result ≡ told_limit (for_days self.now.bounds) k }
     {
-        if k == 0 || k as usize > HORIZON {
-            None
-        } else {
-            Some(self.bounds[k as usize - 1])
-        }
+        let before = usize::from(k).checked_sub(1)?;
+        self.bounds.get(before).copied()
     }
 }

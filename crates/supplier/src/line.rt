@@ -1,6 +1,8 @@
 // A line of a supplier's sheet.
-ghost use Rattle.std.specs.Prelude.{◌≡◌};
+ghost use Rattle.std.specs.Prelude.{◌≡◌, [], ◌∷◌, Some};
 ghost use Rattle.supplier.specs.Kinds.{letter};
+
+use std::fmt;
 
 /// The kinds of line, with their letters.
 #[derive(Clone, Copy, PartialEq, Eq, Debug)]
@@ -18,6 +20,14 @@ impl Kind {
         ensures { result ≡ letter self }
     {
         self as u8 as char
+    }
+}
+
+impl fmt::Display for Kind {
+    ghost output = { λ k. Some (letter k ∷ []) };
+
+    fn fmt<W: fmt::Write>(&self, f: &mut fmt::Formatter<W>) -> fmt::Result {
+        f.write_char(self.letter())
     }
 }
 

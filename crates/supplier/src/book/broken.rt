@@ -6,7 +6,6 @@ ghost use Rattle.supplier.specs.Windows.{first_broken};
 
 use crate::book::Book;
 use crate::limits::Limits;
-use figures::HORIZON;
 
 /// A window whose orders are above its limit.
 #[derive(Clone, Copy, PartialEq, Eq, Debug)]
@@ -21,24 +20,16 @@ impl Book {
     pub fn first_broken(&self, limits: &Limits, q: u64) -> Option<Broken>
         ensures { result ≡ first_broken (for_days limits.now.bounds) (orders_of self.now) q }
     {
-        let bounds = &limits.bounds;
         let mut sum = q;
-        if sum > bounds[0] {
-            return Some(Broken {
-                window: 1,
-                bound: bounds[0],
-                sum,
-            });
-        }
-        for i in 1..HORIZON {
-            sum += self.order(i - 1);
-            if sum > bounds[i] {
+        for (i, bound) in limits.bounds.iter().enumerate() {
+            if sum > *bound {
                 return Some(Broken {
                     window: (i + 1) as u8,
-                    bound: bounds[i],
+                    bound: *bound,
                     sum,
                 });
             }
+            sum += self.order(i);
         }
         None
     }

@@ -5,7 +5,7 @@ ghost use Rattle.supplier.specs.Orders.{entered, due, no_orders};
 ghost use Rattle.supplier.specs.Books.{orders_of, BeforeNewest};
 
 use crate::book::Book;
-use figures::{HORIZON, MOST_PIECES};
+use figures::{HORIZON, MOST_PIECES, within_horizon};
 
 /// The place before the newest order, round to the end of the ring.
 fn before(newest: usize) -> usize
@@ -60,24 +60,21 @@ impl Book {
     pub fn due(&self, quote: u8, q: u64) -> Option<u64>
         ensures { result ≡ near quote (due quote (orders_of self.now) q) }
     {
-        if quote == 0 {
+        let days = within_horizon(quote)?;
+        if days == 0 {
             return Some(q);
         }
-        if quote as usize > HORIZON {
-            return None;
-        }
-        Some(self.order(quote as usize - 1))
+        Some(self.order(days - 1))
     }
 
     /// The orders of the last k days together; absent beyond the horizon.
     pub fn sum(&self, k: u8) -> Option<u64>
         ensures { result ≡ near k (window k (orders_of self.now)) }
     {
-        if k as usize > HORIZON {
-            return None;
-        }
+        let days = within_horizon(k)?;
         let mut sum = 0;
-        for back in 0..k as usize {
+        // A chain that ends in `sum` was tried: its proof did not find that the sum fits.
+        for back in 0..days {
             sum += self.order(back);
         }
         Some(sum)

@@ -1,12 +1,9 @@
 // A ledger is opened, tells the refusal of an order, and takes a day.
-ghost use Rattle.std.specs.Prelude.{◌≡◌, ◌+◌};
-ghost use Rattle.supplier.specs.Finders.{fault, over};
-ghost use Rattle.supplier.specs.Orders.{term};
+ghost use Rattle.std.specs.Prelude.{◌≡◌};
 ghost use Rattle.supplier.specs.Ledgers.{Opened, refusal_of, RefusedPlainly, Entered};
 
 use crate::book::Book;
-use crate::book::broken::Broken;
-use crate::fault::{Cause, Fault};
+use crate::fault::Fault;
 use crate::ledger::{Ledger, TERM};
 use crate::limits::Limits;
 
@@ -29,47 +26,11 @@ impl Ledger {
         ensures plain { RefusedPlainly self.now q result }
     {
         if self.days == TERM {
-            return Some(self.spent());
+            return Some(Fault::term_spent(self.number));
         }
-        match self.book.first_broken(&self.limits, q) {
-            None => None,
-            Some(broken) => Some(self.fault_of(broken)),
-        }
-    }
-
-    /// The fault of a day after the last.
-    fn spent(&self) -> Fault
-        ensures { result ≡ fault Cause.TermSpent self.now.number (self.now.days + 1) 0 term self.now.days }
-    {
-        Fault {
-            cause: Cause::TermSpent,
-            number: self.number,
-            day: self.days + 1,
-            window: 0,
-            bound: TERM as u64,
-            sum: self.days as u64,
-            layers: 0,
-        }
-    }
-
-    /// The fault of a day that breaks a window.
-    fn fault_of(&self, broken: Broken) -> Fault
-        ensures { result ≡ over self.now.number self.now.days broken }
-    {
-        let cause = if broken.window == 1 {
-            Cause::OverDay
-        } else {
-            Cause::OverWindow
-        };
-        Fault {
-            cause,
-            number: self.number,
-            day: self.days + 1,
-            window: broken.window,
-            bound: broken.bound,
-            sum: broken.sum,
-            layers: 0,
-        }
+        self.book
+            .first_broken(&self.limits, q)
+            .map(|broken| Fault::over(self.number, self.days + 1, broken))
     }
 
     /// Takes a day with the order q, or tells why not and changes nothing.
