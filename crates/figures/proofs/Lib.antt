@@ -1,3 +1,4 @@
 pub mod Answered
 pub mod Least
 pub mod Totals
+pub mod Made

@@ -1,44 +1,37 @@
 -- What a calendar vendor means, and what its making gives.
-use Rattle.std.specs.Prelude.{◌≡◌, ℕ, ◌+◌, ◌*◌, ◌≤◌, List, [], ◌∷◌, None}
+use Rattle.std.specs.Prelude.{◌≡◌, ℕ, ◌+◌, ◌≤◌, List, [], ◌∷◌, None}
 use Rattle.figures.specs.declared.ranges.Range.{Range}
 use Rattle.figures.specs.Refusals.{Answered, NoLaw}
 use Rattle.supplier.specs.declared.line.Kind.TheVariants as kind
 use Rattle.supplier.specs.Orders.{no_orders}
 use Rattle.supplier.specs.Meaning.{Meaning, Layout}
-use Rattle.vendors.specs.declared.calendar.Calendar.{Calendar}
+use Rattle.vendors.specs.declared.calendar.CalendarTerms.{CalendarTerms}
+use Rattle.vendors.specs.declared.vendor.Vendor.{Vendor}
 use Rattle.vendors.specs.Vended.{vended, vendor_layout}
 use Rattle.supplier.specs.Numbers.{numbers, named}
-use Rattle.vendors.specs.Periods.{periods}
-use Rattle.vendors.specs.Departures.{week, longest, Leaves, Timely}
+use Rattle.vendors.specs.Periods.{weekly, most_travel, most_weekly}
+use Rattle.vendors.specs.Departures.{longest, Leaves, Timely}
 use Rattle.vendors.specs.Sources.{vendor_of}
 
--- the most that the bound of a week can be
-abbrev pub most_weekly : ℕ
-most_weekly = 70000000
-
--- the longest that the travel can be
-abbrev pub most_travel : ℕ
-most_travel = 49
-
--- the limit of k days: the bound for each week that they begin
-abbrev pub weekly : ℕ → ℕ → ℕ
-weekly bound k = bound * periods week k
+abbrev pub Calendar : Type 0
+Calendar =
+    Vendor CalendarTerms (record { kind = λ t. kind.Calendar; quote = λ t. t.travel + longest t.mask.bits; limit = λ t. weekly t.weekly })
 
 abbrev pub meaning_of : Calendar → Meaning
-meaning_of c = vendor_of kind.Calendar (weekly c.weekly) c.source
+meaning_of c = vendor_of kind.Calendar (weekly c.terms.weekly) c.source
 
 abbrev pub layout_of : Calendar → Layout
 layout_of c = vendor_layout kind.Calendar c.source.ledger.number c.source.quote
 
 -- the mask and the travel, which say when an order leaves and arrives
 abbrev pub departure_figures : Calendar → ℕ × ℕ
-departure_figures c = (c.mask, c.travel)
+departure_figures c = (c.terms.mask.bits, c.terms.travel)
 
 -- when an order of day t leaves and arrives: by its quoted day
 pub record Ships (c : Calendar) (t arrival : ℕ) : Type 0 where
   pub day : ℕ
-  pub leaves : Leaves c.mask t day
-  pub travels : arrival ≡ day + c.travel
+  pub leaves : Leaves c.terms.mask.bits t day
+  pub travels : arrival ≡ day + c.terms.travel
   pub timely : arrival ≤ t + (meaning_of c).service.quote
 
 -- the ranges of number, mask, travel and weekly bound

@@ -1,7 +1,8 @@
+pub mod Departures
+pub mod Periods
 pub mod Vended
 pub mod Sources
-pub mod Periods
 pub mod Pipelines
-pub mod Departures
 pub mod Calendars
+pub mod Idles
 pub mod Serving

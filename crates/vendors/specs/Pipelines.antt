@@ -1,26 +1,23 @@
 -- What a pipeline vendor means, and what its making gives.
-use Rattle.std.specs.Prelude.{◌≡◌, ℕ, ◌*◌, List, [], ◌∷◌, None}
+use Rattle.std.specs.Prelude.{◌≡◌, ℕ, List, [], ◌∷◌, None}
 use Rattle.figures.specs.declared.ranges.Range.{Range}
 use Rattle.figures.specs.Days.{horizon}
 use Rattle.figures.specs.Refusals.{Answered, NoLaw}
 use Rattle.supplier.specs.declared.line.Kind.TheVariants as kind
 use Rattle.supplier.specs.Orders.{no_orders}
 use Rattle.supplier.specs.Meaning.{Meaning, Layout}
-use Rattle.vendors.specs.declared.pipeline.Pipeline.{Pipeline}
+use Rattle.vendors.specs.declared.pipeline.PipelineTerms.{PipelineTerms}
+use Rattle.vendors.specs.declared.vendor.Vendor.{Vendor}
 use Rattle.vendors.specs.Vended.{vended, vendor_layout}
 use Rattle.supplier.specs.Numbers.{numbers, named}
 use Rattle.vendors.specs.Sources.{vendor_of}
+use Rattle.vendors.specs.Periods.{daily, most_daily}
 
--- the most that the most pieces of a day can be
-abbrev pub most_daily : ℕ
-most_daily = 10000000
-
--- the limit of k days
-abbrev pub daily : ℕ → ℕ → ℕ
-daily max k = k * max
+abbrev pub Pipeline : Type 0
+Pipeline = Vendor PipelineTerms (record { kind = λ t. kind.Pipeline; quote = λ t. t.lead; limit = λ t. daily t.max })
 
 abbrev pub meaning_of : Pipeline → Meaning
-meaning_of p = vendor_of kind.Pipeline (daily p.max) p.source
+meaning_of p = vendor_of kind.Pipeline (daily p.terms.max) p.source
 
 abbrev pub layout_of : Pipeline → Layout
 layout_of p = vendor_layout kind.Pipeline p.source.ledger.number p.source.quote

@@ -13,15 +13,11 @@ use Rattle.supplier.proofs.Finders.{finds_agree}
 use Rattle.supplier.proofs.Books.{orders-long}
 use Rattle.supplier.proofs.Services.{finder_steady}
 use Rattle.vendors.specs.declared.source.Source.{Source}
-use Rattle.vendors.specs.Periods.{Rises}
+use Rattle.vendors.specs.Periods.{Tells, Rises, daily}
 use Rattle.vendors.specs.Sources.{vendor_of, Served}
 use Rattle.vendors.specs.Vended.{vended, vendor_line, vendor_layout}
 
--- this function of the number of days tells a source's table
-abbrev pub Tells : (ℕ → ℕ) → Source → Type 0
-Tells limit s = (k : ℕ) → 1 ≤ k → k ≤ horizon → for_days s.ledger.limits.bounds k ≡ limit k
-
-pub vendor_sound : (kind : Kind) (limit : ℕ → ℕ) (s : Source) → Tells limit s → Sound (vendor_of kind limit s)
+pub vendor_sound : (kind : Kind) (limit : ℕ → ℕ) (s : Source) → Tells limit s.ledger.limits.bounds → Sound (vendor_of kind limit s)
 vendor_sound kind limit s tells = record {
   service = finder_steady s.ledger.number s.quote limit s.ledger.days (orders_of s.ledger.book) s.near
       (λ k a b. subst (λ n. n ≤ most) (tells k a b) (limit-high s.ledger.limits.bounds s.ledger.limits.high k))
@@ -35,7 +31,7 @@ vendor_sound kind limit s tells = record {
   few = omega arith;
 }
 
-pub vendor_day : (kind : Kind) (limit : ℕ → ℕ) (s : Source) (q : ℕ) (r : Result ℕ Fault) (t : Source) → Tells limit s → Served s q r t →
+pub vendor_day : (kind : Kind) (limit : ℕ → ℕ) (s : Source) (q : ℕ) (r : Result ℕ Fault) (t : Source) → Tells limit s.ledger.limits.bounds → Served s q r t →
     Day (vendor_layout kind s.ledger.number s.quote) (vendor_of kind limit s) q r (vendor_of kind limit t)
 vendor_day kind limit s q (Ok d) t tells v =
     let book = orders_of s.ledger.book in
@@ -64,6 +60,6 @@ served_bounds s q (Ok d) t v = v.entry.bounds
 served_bounds s q (Err g) t (e, same) = ap (λ l. l.limits.bounds) same.ledger
 
 -- periods of one day are days
-pub one-day : (max : ℕ) (bounds : List ℕ) → Rises 1 max bounds → (k : ℕ) → 1 ≤ k → k ≤ horizon → for_days bounds k ≡ k * max
+pub one-day : (max : ℕ) (bounds : List ℕ) → Rises 1 max bounds → Tells (daily max) bounds
 one-day max bounds rises k a b =
     rises k a b ∙ ap (λ n. max * n) (div-one (k + 0) ∙ add-zero k) ∙ mul_comm max k

@@ -3,7 +3,7 @@ ghost use Rattle.std.specs.Prelude.{◌*◌, ◌≤◌};
 ghost use Rattle.figures.specs.Days.{horizon, most};
 ghost use Rattle.vendors.specs.Periods.{Rises, periods};
 
-use figures::HORIZON;
+use std::array;
 use supplier::Limits;
 
 /// The limit of k days is the amount times the periods that k days begin.
@@ -13,9 +13,7 @@ pub(crate) fn periodic_limits(period: u64, amount: u64) -> Limits
     requires few { amount * periods period horizon ≤ most }
     ensures { Rises period amount result.bounds }
 {
-    let mut bounds = [0; HORIZON];
-    for i in 0..HORIZON {
-        bounds[i] = amount * ((i as u64 + period) / period);
+    Limits {
+        bounds: array::from_fn(|i| amount * ((i as u64 + period) / period)),
     }
-    Limits { bounds }
 }

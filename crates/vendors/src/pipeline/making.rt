@@ -1,14 +1,15 @@
 // The question and the making of a pipeline vendor.
-ghost use Rattle.std.specs.Prelude.{◌≤◌, [], ◌∷◌};
-ghost use Rattle.figures.specs.Days.{horizon};
+ghost use Rattle.std.specs.Prelude.{[], ◌∷◌};
 ghost use Rattle.figures.specs.Refusals.{Answered, NoLaw};
-ghost use Rattle.vendors.specs.Pipelines.{pipeline_ranges, most_daily, opened, Made};
+ghost use Rattle.vendors.specs.Pipelines.{pipeline_ranges, Made};
 
-use crate::periods::periodic_limits;
-use crate::pipeline::Pipeline;
-use crate::source::Source;
+use crate::pipeline::PipelineTerms;
+use crate::vendor::Vendor;
 use figures::{HORIZON, Range, Refusal, range_refusal};
-use supplier::{Ledger, NUMBERS, kept_number};
+use supplier::{NUMBERS, kept_number};
+
+/// A pipeline vendor.
+pub type Pipeline = Vendor<PipelineTerms>;
 
 /// The ranges of the number, the lead and the most pieces of a day.
 pub const RANGES: [Range; 3] = [
@@ -23,7 +24,7 @@ pub const RANGES: [Range; 3] = [
     },
 ];
 
-impl Pipeline {
+impl Vendor<PipelineTerms> {
     /// The refusal of these figures, or none.
     pub fn question(number: u64, lead: u64, max: u64) -> Option<Refusal>
         ensures { Answered pipeline_ranges (number ∷ lead ∷ max ∷ []) NoLaw result }
@@ -35,27 +36,13 @@ impl Pipeline {
     pub fn new(number: u64, lead: u64, max: u64) -> Self
         ensures { Made number lead max result }
     {
-        match Pipeline::question(number, lead, max) {
-            None => Pipeline::opened(kept_number(number), lead as u8, max),
-            Some(_) => Pipeline::opened(kept_number(number), 0, 0),
-        }
-    }
-
-    /// A vendor with no day taken.
-    fn opened(number: u16, lead: u8, max: u64) -> Self
-        requires near { lead ≤ horizon }
-        requires few { max ≤ most_daily }
-        ensures { opened number lead max result }
-    {
-        let limits = periodic_limits(1, max);
-        let ledger = Ledger::new(number, limits);
-        Pipeline {
-            source: Source {
-                ledger,
-                quote: lead,
-                delivered: 0,
+        let terms = match Pipeline::question(number, lead, max) {
+            None => PipelineTerms {
+                lead: lead as u8,
+                max,
             },
-            max,
-        }
+            Some(_) => PipelineTerms { lead: 0, max: 0 },
+        };
+        Vendor::opened(kept_number(number), terms)
     }
 }

@@ -1,25 +1,9 @@
-use Rattle.std.proofs.Common.{◌≡◌, ℕ, zero, suc, ◌+◌, ◌*◌, ◌/◌, ◌<◌, ◌≤◌, ◌≢◌, List, length, get_or, ap, ◌∙◌, mul-le-mul_left, arith, length-set, get_or-set_other, get_or-set_same, below_more}
-use Rattle.figures.specs.Days.{horizon, most}
+use Rattle.std.proofs.Common.{◌≡◌, ℕ, zero, suc, ◌+◌, ◌*◌, ◌/◌, ◌<◌, ◌≤◌, List, get_or, length, ap, ◌∙◌, arith, rules}
+use Rattle.figures.specs.Days.{horizon}
+use Rattle.figures.proofs.Made.{made_at}
 use Rattle.vendors.specs.Periods.{Rises}
-use Rattle.vendors.proofs.Rising.{periods_grow, periods_next, rises_high, rises_grow}
+use Rattle.vendors.proofs.Rising.{periods_next, rises_high, rises_grow}
 use Rattle.vendors.proofs.periods.periodic_limits.Goals as goal
-
-pub overflow_mul-bounds : goal.overflow_mul-bounds
-overflow_mul-bounds c =
-    let p = c.args.period in
-    let e = ap (λ n. c.args.amount * n) (periods_next p c.loop-i.i c.requires.some) in
-    let m = mul-le-mul_left c.args.amount (periods_grow p (suc c.loop-i.i) horizon c.requires.some (omega arith)) in
-    let f = c.requires.few in
-    let b : c.args.amount * ((c.loop-i.i + p) / p) ≤ most = omega arith in
-    omega arith
-
-pub loop-i-preserved : goal.loop-i-preserved
-loop-i-preserved c = (
-  simp length-set c.loop-i.invariant.0,
-  below_more _ _
-      (λ k h. let ne : k ≢ c.loop-i.i = omega arith in rw get_or-set_other (c.loop-i.invariant.1 k h))
-      (let lt : c.loop-i.i < length c.loop-i.bounds = omega arith in rw get_or-set_same),
-)
 
 -- the table is filled
 rises : (period amount : ℕ) (bounds : List ℕ) → 1 ≤ period → ((k : ℕ) → k < horizon → get_or bounds k 0 ≡ amount * ((k + period) / period)) → Rises period amount bounds
@@ -28,13 +12,20 @@ rises period amount bounds p h (suc k) l m = h k (omega arith) ∙ ap (λ n. amo
 
 pub invariant_of-result : goal.invariant_of-result
 invariant_of-result c =
-    let b = c.loop-i.bounds in
-    let r = rises c.args.period c.args.amount b c.requires.some (λ k h. c.loop-i.invariant.1 k (omega arith)) in
+    let b = c.from_fn.result in
+    let each : (k : ℕ) → k < horizon → get_or b k 0 ≡ c.args.amount * ((k + c.args.period) / c.args.period) =
+    λ k h. made_at _ (λ n. c.args.amount * ((n + c.args.period) / c.args.period)) _ b 0 horizon (λ j y q d. search rules) c.from_fn.ensures.items.each k (omega arith) (omega arith) in
+    let r = rises c.args.period c.args.amount b c.requires.some each in
+    let wide : length b ≡ horizon = c.from_fn.ensures.items.long in
     record {
-      wide = c.loop-i.invariant.0;
-      high = rises_high c.args.period c.args.amount b r c.requires.some c.loop-i.invariant.0 c.requires.few;
+      wide = wide;
+      high = rises_high c.args.period c.args.amount b r c.requires.some wide c.requires.few;
       grows = rises_grow c.args.period c.args.amount b r c.requires.some;
     }
 
 pub returns : goal.returns
-returns c = rises c.args.period c.args.amount c.loop-i.bounds c.requires.some (λ k h. c.loop-i.invariant.1 k (omega arith))
+returns c =
+    let b = c.from_fn.result in
+    let each : (k : ℕ) → k < horizon → get_or b k 0 ≡ c.args.amount * ((k + c.args.period) / c.args.period) =
+    λ k h. made_at _ (λ n. c.args.amount * ((n + c.args.period) / c.args.period)) _ b 0 horizon (λ j y q d. search rules) c.from_fn.ensures.items.each k (omega arith) (omega arith) in
+    rises c.args.period c.args.amount b c.requires.some each
