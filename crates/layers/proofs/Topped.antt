@@ -6,7 +6,7 @@ use Rattle.std.proofs.lemmas.List.{length-take}
 use Rattle.std.proofs.lemmas.Option.{slice_get_past}
 use Rattle.figures.specs.Days.{horizon}
 use Rattle.supplier.specs.declared.line.Line.{Line}
-use Rattle.supplier.specs.Meaning.{Service, Meaning, Steady, Sound, Laid}
+use Rattle.supplier.specs.Meaning.{most_lines, Service, Meaning, Steady, Sound, Laid}
 use Rattle.supplier.specs.Shelves.{Placed, Shelved, Tells, held, allowed, figures_of}
 use Rattle.layers.specs.Sheets.{topped, later}
 
@@ -19,16 +19,16 @@ nth-take (suc n) (x ∷ xs) (suc i) h = nth-take n xs i (omega arith)
 pub topped-first : (line : Line) (below : List Line) (i : ℕ) → i ≡ 0 → Some line ≡ slice_get (topped line below) i
 topped-first line below i e = ap (slice_get (topped line below)) (sym e)
 
-pub topped_below : (line : Line) (below : List Line) (i : ℕ) → 0 < i → i < 1000 → slice_get (topped line below) i ≡ slice_get below (i - 1)
+pub topped_below : (line : Line) (below : List Line) (i : ℕ) → 0 < i → i < most_lines → slice_get (topped line below) i ≡ slice_get below (i - 1)
 topped_below line below i a b =
     let e : i ≡ suc (i - 1) = omega arith in
-    ap (slice_get (topped line below)) e ∙ nth-take 999 below (i - 1) (omega arith)
+    ap (slice_get (topped line below)) e ∙ nth-take (most_lines - 1) below (i - 1) (omega arith)
 
-pub topped-cut : (line : Line) (below : List Line) (i : ℕ) → 1000 ≤ i → slice_get (topped line below) i ≡ None
-topped-cut line below i h = let l = length-take 1000 (line ∷ below) in slice_get_past (topped line below) i (omega arith)
+pub topped-cut : (line : Line) (below : List Line) (i : ℕ) → most_lines ≤ i → slice_get (topped line below) i ≡ None
+topped-cut line below i h = let l = length-take most_lines (line ∷ below) in slice_get_past (topped line below) i (omega arith)
 
-pub topped-length : (line : Line) (below : List Line) → length (topped line below) ≡ min (length below + 1) 1000
-topped-length line below = let l = length-take 1000 (line ∷ below) in omega arith
+pub topped-length : (line : Line) (below : List Line) → length (topped line below) ≡ min (length below + 1) most_lines
+topped-length line below = let l = length-take most_lines (line ∷ below) in omega arith
 
 -- a service that is steady, with a line over the sheets below
 pub sound-topped : (s : Service) (line : Line) (below : List Line) → Steady s → Sound (record { service = s; sheet = topped line below })

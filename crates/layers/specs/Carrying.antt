@@ -2,8 +2,9 @@
 use Rattle.std.specs.Prelude.{◌+◌, min, Option}
 use Rattle.std.specs.Option.{option_map}
 use Rattle.supplier.specs.declared.fault.Fault.{Fault}
+use Rattle.supplier.specs.Meaning.{most_layers}
 
--- one layer more; 1,000 stands for that many or more
+-- one layer more; the most layers stand for that many or more
 abbrev pub carried : Fault → Fault
 carried f = record {
   cause = f.cause;
@@ -12,7 +13,7 @@ carried f = record {
   window = f.window;
   bound = f.bound;
   sum = f.sum;
-  layers = min (f.layers + 1) 1000;
+  layers = min (f.layers + 1) most_layers;
 }
 
 abbrev pub carries : Option Fault → Option Fault

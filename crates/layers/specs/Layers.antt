@@ -1,5 +1,5 @@
 -- A layer by what it is: at work, or idle.
-use Rattle.layers.specs.declared.idle.Idle.{Idle as Resting}
+use Rattle.vendors.specs.Idles.{Idle as Resting}
 use Rattle.layers.specs.declared.layer.Layer.{Layer}
 use Rattle.layers.specs.declared.layer.Layer.TheVariants.{Working, Idle}
 

@@ -1,7 +1,5 @@
-pub mod Idles
 pub mod Layers
 pub mod Questions
 pub mod Makings
 pub mod Carrying
 pub mod Sheets
-pub mod Resting

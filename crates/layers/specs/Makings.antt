@@ -3,7 +3,12 @@ use Rattle.std.specs.Prelude.{◌≡◌, ℕ}
 use Rattle.supplier.specs.declared.line.Kind.{Kind}
 use Rattle.layers.specs.declared.layer.Layer.{Layer}
 use Rattle.layers.specs.declared.layer.Layer.TheVariants.{Working, Idle}
-use Rattle.layers.specs.Idles.{idle_meaning, idled}
+use Rattle.vendors.specs.Idles.{idle_meaning, idled}
+
+-- idle, of this kind and number, with what was to lie below
+abbrev pub Rests : {W B : Type 0} → Kind → ℕ → B → Layer W B → Type 0
+Rests kind number below (Working w) = ⊥
+Rests kind number below (Idle i b) = (idle_meaning i ≡ idled kind number) × (b ≡ below)
 
 -- at work where the question passes, and else idle, with what was to lie below
 abbrev pub Given : {W B : Type 0} → Type 0 → (W → Type 0) → Kind → ℕ → B → Layer W B → Type 0

@@ -1,11 +1,12 @@
 -- A layer's sheet: its line, then the lines below.
 use Rattle.std.specs.Prelude.{◌+◌, List, ◌∷◌, take}
 use Rattle.supplier.specs.declared.line.Line.{Line}
+use Rattle.supplier.specs.Meaning.{most_lines}
 use Rattle.supplier.specs.Shelves.{Placed}
 
--- no more than 1,000 lines are told
+-- no more than the most lines are told
 abbrev pub topped : Line → List Line → List Line
-topped line below = take 1000 (line ∷ below)
+topped line below = take most_lines (line ∷ below)
 
 -- a shelf below: its line stands one place later
 abbrev pub later : Placed → Placed

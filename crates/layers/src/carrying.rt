@@ -2,13 +2,14 @@
 ghost use Rattle.std.specs.Prelude.{◌≡◌};
 ghost use Rattle.layers.specs.Carrying.{carried};
 
-use supplier::Fault;
+use supplier::{Fault, MOST_LAYERS};
 
-/// The fault as a layer carries it: one layer more, up to 1,000.
+/// The fault as a layer carries it: one layer more, up to the most layers.
 pub fn carry(fault: Fault) -> Fault
     ensures { result ≡ carried fault }
 {
-    let mut fault = fault;
-    fault.layers = fault.layers.saturating_add(1).min(1_000);
-    fault
+    Fault {
+        layers: fault.layers.saturating_add(1).min(MOST_LAYERS),
+        ..fault
+    }
 }

@@ -1,13 +1,13 @@
 // A layer as its making gives it: at work over what is below, or idle.
 ghost use Rattle.std.specs.Prelude.{[], None};
 ghost use Rattle.layers.specs.Layers.{by_layer};
-ghost use Rattle.layers.specs.Idles.{idle_meaning, idle_layout, nothing};
+ghost use Rattle.vendors.specs.Idles.{idle_meaning, idle_layout};
+ghost use Rattle.vendors.specs.Periods.{nothing};
 ghost use Rattle.layers.specs.declared.layer.Layer.TheVariants.{Working, Idle};
 ghost use Rattle.vendors.specs.Serving.{vendor_sound};
-ghost use Rattle.layers.specs.Resting.{shut_table};
 
-use crate::idle::Idle;
 use supplier::{Fault, Line, Supplier};
+use vendors::Idle;
 
 /// `W` works over what is below; `B` is what an idle layer holds and never calls.
 #[derive(Drop)]
@@ -17,8 +17,6 @@ pub enum Layer<W: Supplier, B> {
 }
 
 impl<W: Supplier, B> Supplier for Layer<W, B> {
-    ghost valid = { by_layer W.Supplier.valid (λ _. Unit {0}) };
-
     ghost meaning = { by_layer W.Supplier.meaning idle_meaning };
 
     ghost layout = { by_layer W.Supplier.layout idle_layout };
@@ -28,13 +26,13 @@ impl<W: Supplier, B> Supplier for Layer<W, B> {
     ghost envelope = { by_layer W.Supplier.envelope (λ _. None) };
 
     ghost sound = { elim [
-      | Working w ↦ λ v. W.Supplier.sound w v
-      | Idle i b ↦ λ v. vendor_sound i.kind nothing i.source (shut_table i)
+      | Working w ↦ W.Supplier.sound w
+      | Idle i b ↦ vendor_sound i.terms.kind nothing i.source i.tells
     ] };
 
-    ghost shelved = { elim [ Working w ↦ λ v. W.Supplier.shelved w v | Idle i b ↦ λ v. tt ] };
+    ghost shelved = { elim [ Working w ↦ W.Supplier.shelved w | Idle i b ↦ tt ] };
 
-    ghost enveloped = { elim [ Working w ↦ λ v. W.Supplier.enveloped w v | Idle i b ↦ λ v. tt ] };
+    ghost enveloped = { elim [ Working w ↦ W.Supplier.enveloped w | Idle i b ↦ tt ] };
 
     fn quote(&self) -> u8 {
         match self {

@@ -2,11 +2,13 @@
 #![tactic(auto)]
 
 mod carrying;
-mod idle;
 mod layer;
+mod resting;
 mod sending;
+mod sheets;
 
 pub use carrying::carry;
-pub use idle::Idle;
 pub use layer::Layer;
 pub use sending::send;
+pub use sheets::lines_over;
+pub use vendors::Idle;
