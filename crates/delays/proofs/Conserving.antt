@@ -9,9 +9,9 @@ use Rattle.delays.specs.declared.transit.Transit.{Transit}
 use Rattle.delays.specs.Delays.{Late}
 use Rattle.delays.specs.Conservation.{DelayConserves}
 
-pub delay_conserves : (ok : Type 0) (m : Meaning) (own : Transit) (transit : ℕ) → transit ≡ window own.delay (orders_of own.received) →
-    Late ok m own → DelayConserves m own.delay transit
-delay_conserves ok m own transit e v orders b =
+pub delay_conserves : (m : Meaning) (own : Transit) (transit : ℕ) → transit ≡ window own.delay (orders_of own.received) →
+    Late m own → DelayConserves m own.delay transit
+delay_conserves m own transit e v orders b =
     let x = between m.service.quote (m.service.quote + own.delay) m.service.book orders b (omega arith) v.near in
     let y = in_row m.service.quote own.delay (orders_of own.received) m.service.book v.coming in
     omega arith

@@ -4,7 +4,7 @@ use Rattle.std.proofs.Common.{arith}
 use Rattle.supplier.specs.declared.fault.Cause.{Cause}
 use Rattle.supplier.specs.declared.fault.Cause.TheVariants.{TermSpent, OverDay, OverWindow}
 use Rattle.supplier.specs.declared.fault.Fault.{Fault}
-use Rattle.supplier.specs.Meaning.{Service, Refused, Caused}
+use Rattle.supplier.specs.Meaning.{most_layers, Service, Refused, Caused}
 use Rattle.layers.specs.Carrying.{carried, carries}
 use Rattle.delays.specs.Delays.{delayed_service}
 
@@ -15,4 +15,4 @@ caused_carried delay s q f OverWindow c = c
 
 pub refused-carried : (delay : ℕ) (s : Service) (q : ℕ) (r : Option Fault) → Refused s q r → Refused (delayed_service delay s) q (carries r)
 refused-carried delay s q None p = p
-refused-carried delay s q (Some f) (day, layers, cause) = (day, (let m : min (f.layers + 1) 1000 ≤ 1000 = omega arith in m), caused_carried delay s q f f.cause cause)
+refused-carried delay s q (Some f) (day, layers, cause) = (day, (let m : min (f.layers + 1) most_layers ≤ most_layers = omega arith in m), caused_carried delay s q f f.cause cause)

@@ -10,8 +10,8 @@ use Rattle.delays.specs.declared.transit.Transit.{Transit}
 use Rattle.delays.specs.Delays.{delayed, Late}
 use Rattle.delays.specs.Carried.{refused-carried}
 
-pub delayed_sound : (ok : Type 0) (own : Transit) (m : Meaning) → Late ok m own → Sound m → Sound (delayed own m)
-delayed_sound ok own m late below =
+pub delayed_sound : (own : Transit) (m : Meaning) → Late m own → Sound m → Sound (delayed own m)
+delayed_sound own m late below =
     let t = below.service in
     sound-topped _ _ m.sheet (record {
       near = late.near;

@@ -35,8 +35,7 @@ delay_layout number delay early below orders =
     option_map (topped (delay_line number delay early orders (slice_index orders (early + delay)))) (below orders)
 
 -- what ties a delay to what lies below it
-pub record Late (ok : Type 0) (below : Meaning) (own : Transit) : Type 0 where
-  pub below_ok : ok
+pub record Late (below : Meaning) (own : Transit) : Type 0 where
   -- the quotes together are within the horizon
   pub near : below.service.quote + own.delay ≤ horizon
   -- every order was within the limit of its day

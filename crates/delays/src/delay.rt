@@ -1,4 +1,6 @@
 // A delay at work. Its question and making, and what it does as a supplier, stand in delay/.
+ghost use Rattle.delays.specs.Delays.{Late};
+
 use crate::transit::Transit;
 use supplier::Supplier;
 
@@ -11,4 +13,5 @@ pub mod supplying;
 pub struct Delaying<S: Supplier> {
     below: S,
     own: Transit,
+    ghost late: { Late (S.meaning below) own },
 }

@@ -9,7 +9,7 @@ ghost use Rattle.delays.specs.DelayMaking.{delay_ranges, DelayAsked, DelayPasses
 use crate::delay::Delaying;
 use crate::transit::Transit;
 use figures::{HORIZON, Range, Refusal, range_refusal};
-use layers::{Idle, Layer};
+use layers::Layer;
 use supplier::{Book, Kind, NUMBERS, Supplier, kept_number};
 
 /// A delay over a supplier, as its making gives it.
@@ -42,7 +42,7 @@ impl<S: Supplier> Delaying<S> {
     /// The refusal of a delay of so many days over this supplier, or none.
     pub fn question(below: &S, number: u64, delay: u64) -> Option<Refusal>
         ensures ranged { IfNone result (AllIn delay_ranges (number ∷ delay ∷ [])) }
-        ensures asked { S.Supplier.valid below.now → DelayAsked (S.Supplier.meaning below.now) number delay result }
+        ensures asked { DelayAsked (S.meaning below.now) number delay result }
     {
         if let Some(refusal) = range_refusal(&[number, delay], &RANGES) {
             return Some(refusal);
@@ -58,11 +58,11 @@ impl<S: Supplier> Delaying<S> {
 
     /// A delay of so many days over this supplier; an idle layer where the question refuses it.
     pub fn over(below: S, number: u64, delay: u64) -> Delay<S>
-        ensures { S.Supplier.valid below → Given (DelayPasses (S.Supplier.meaning below) number delay)
-            (DelayNew S.Supplier.valid S.Supplier.meaning below number delay) Kind.Delay (named number) below result }
+        ensures { Given (DelayPasses (S.meaning below) number delay)
+            (DelayNew S.Supplier below number delay) Kind.Delay (named number) below result }
     {
-        if let Some(_) = Delaying::question(&below, number, delay) {
-            return Layer::Idle(Idle::new(kept_number(number), Kind::Delay), below);
+        if Delaying::question(&below, number, delay).is_some() {
+            return Layer::resting(number, Kind::Delay, below);
         }
         Layer::Working(Delaying {
             below,

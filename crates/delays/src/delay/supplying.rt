@@ -1,27 +1,25 @@
 // A delay at work as a supplier.
 ghost use Rattle.std.specs.Prelude.{map};
 ghost use Rattle.layers.specs.Sheets.{later};
-ghost use Rattle.delays.specs.Delays.{delayed, delay_layout, Late};
+ghost use Rattle.delays.specs.Delays.{delayed, delay_layout};
 ghost use Rattle.delays.specs.DelayLaws.{delayed_sound, delayed_shelved};
 
 use crate::delay::Delaying;
-use layers::carry;
-use supplier::{Fault, Kind, Line, Supplier};
+use layers::{carry, lines_over};
+use supplier::{Fault, Kind, Line, MOST_LINES, Supplier};
 
 impl<S: Supplier> Supplier for Delaying<S> {
-    ghost valid = { λ s. Late (S.Supplier.valid s.below) (S.Supplier.meaning s.below) s.own };
+    ghost meaning = { λ s. delayed s.own (S.meaning s.below) };
 
-    ghost meaning = { λ s. delayed s.own (S.Supplier.meaning s.below) };
+    ghost layout = { λ s. delay_layout s.own.number s.own.delay (S.meaning s.below).service.quote (S.layout s.below) };
 
-    ghost layout = { λ s. delay_layout s.own.number s.own.delay (S.Supplier.meaning s.below).service.quote (S.Supplier.layout s.below) };
+    ghost shelves = { λ s. map later (S.shelves s.below) };
 
-    ghost shelves = { λ s. map later (S.Supplier.shelves s.below) };
+    ghost sound = { λ s. delayed_sound s.own (S.meaning s.below) s.late (S.Supplier.sound s.below) };
 
-    ghost sound = { λ s v. delayed_sound (S.Supplier.valid s.below) s.own (S.Supplier.meaning s.below) v (S.Supplier.sound s.below v.below_ok) };
+    ghost shelved = { λ s. delayed_shelved s.own (S.meaning s.below) (S.shelves s.below) (S.Supplier.shelved s.below) };
 
-    ghost shelved = { λ s v. delayed_shelved s.own (S.Supplier.meaning s.below) (S.Supplier.shelves s.below) (S.Supplier.shelved s.below v.below_ok) };
-
-    ghost enveloped = { λ s v. tt };
+    ghost enveloped = { λ s. tt };
 
     fn quote(&self) -> u8 {
         self.below.quote().saturating_add(self.own.delay)
@@ -36,11 +34,11 @@ impl<S: Supplier> Supplier for Delaying<S> {
     }
 
     fn lines(&self) -> usize {
-        self.below.lines().saturating_add(1).min(1_000)
+        lines_over(self.below.lines())
     }
 
     fn line(&self, i: usize) -> Option<Line> {
-        if i >= 1_000 {
+        if i >= MOST_LINES {
             return None;
         }
         if i > 0 {
@@ -56,22 +54,15 @@ impl<S: Supplier> Supplier for Delaying<S> {
     }
 
     fn trial(&self, q: u64) -> Option<Fault> {
-        match self.below.trial(q) {
-            None => None,
-            Some(fault) => Some(carry(fault)),
-        }
+        self.below.trial(q).map(|fault| carry(fault))
     }
 
     fn day(&mut self, q: u64) -> Result<u64, Fault> {
-        match self.below.day(q) {
-            Err(fault) => Err(carry(fault)),
-            Ok(received) => {
-                let due = self.own.received.due(self.own.delay, received).unwrap_or(0);
-                let _ = self.own.received.take(received);
-                self.own.ordered = q;
-                self.own.delivered = due;
-                Ok(due)
-            }
-        }
+        let received = self.below.day(q).map_err(|fault| carry(fault))?;
+        let due = self.own.received.due(self.own.delay, received).unwrap_or(0);
+        let _ = self.own.received.take(received);
+        self.own.ordered = q;
+        self.own.delivered = due;
+        Ok(due)
     }
 }

@@ -7,18 +7,19 @@ use Rattle.layers.proofs.Rows.{in_row}
 use Rattle.delays.specs.Delays.{delay_line}
 use Rattle.delays.proofs.delay.supplying.DelayingSupplier.line.Goals as goal
 
-pub returns-then-i-ge1000 : goal.returns-then-i-ge1000
-returns-then-i-ge1000 g c v = sym (topped-cut _ _ c.args.i (omega arith))
+pub returns-then-i-ge-MOST_LINES : goal.returns-then-i-ge-MOST_LINES
+returns-then-i-ge-MOST_LINES g c = sym (topped-cut _ _ c.args.i (omega arith))
 
 pub returns-then-i-gt0 : goal.returns-then-i-gt0
-returns-then-i-gt0 g c v = c.line.ensures v.below_ok ∙ sym (topped_below _ _ c.args.i (omega arith) (omega arith))
+returns-then-i-gt0 g c = c.line.ensures ∙ sym (topped_below _ _ c.args.i (omega arith) (omega arith))
 
 pub returns : goal.returns
-returns g c v =
-    let own = c.args.self.now.own in
-    let m = g.S.Supplier.meaning c.args.self.now.below in
+returns g c =
+    let s = c.args.self.now in
+    let own = s.own in
+    let m = g.S.Supplier.meaning s.below in
     let early = m.service.quote in
     let h : c.in_transit.result ≡ span early (early + own.delay) m.service.book =
-    c.in_transit.ensures.told ∙ in_row early own.delay (orders_of own.received) m.service.book v.coming in
-    (λ i. Some (record { number = own.number; kind = kind.Delay; order = v.last i; delivery = own.delivered; held = h i }))
+    c.in_transit.ensures.told ∙ in_row early own.delay (orders_of own.received) m.service.book s.late.coming in
+    (λ i. Some (record { number = own.number; kind = kind.Delay; order = s.late.last i; delivery = own.delivered; held = h i }))
     ∙ topped-first (delay_line own.number own.delay early m.service.book own.delivered) m.sheet c.args.i (omega arith)

@@ -4,10 +4,8 @@ use Rattle.delays.specs.Delays.{delay_line}
 use Rattle.delays.proofs.delay.supplying.DelayingSupplier.lines.Goals as goal
 
 pub returns : goal.returns
-returns g c v =
+returns g c =
     let s = c.args.self.now in
     let m = g.S.Supplier.meaning s.below in
     let l = topped-length (delay_line s.own.number s.own.delay m.service.quote m.service.book s.own.delivered) m.sheet in
-    let few = (g.met.S.Supplier.sound s.below v.below_ok).few in
-    let n = c.lines.ensures v.below_ok in
     omega arith
