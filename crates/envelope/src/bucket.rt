@@ -6,7 +6,7 @@ ghost use Rattle.envelope.specs.Buckets.{bucket_ranges, BelowMean, BucketPasses,
 ghost use Rattle.envelope.specs.BucketsLemmas.{fine, bucket_lawful};
 
 use crate::envelope::{DAILY, Envelope};
-use figures::{HORIZON, Range, Refusal, first_out};
+use figures::{Range, Refusal, first_out, within_horizon};
 
 /// The range of the burst.
 pub const BURSTS: Range = Range {
@@ -46,7 +46,7 @@ impl Bucket {
         ensures kept { BucketPasses peak burst mean → (result.peak ≡ peak) × (result.burst ≡ burst) × (result.mean ≡ mean) }
         ensures refused { (BucketPasses peak burst mean → ⊥) → (result.peak ≡ 0) × (result.burst ≡ 0) × (result.mean ≡ 0) }
     {
-        if let Some(_) = Bucket::question(peak, burst, mean) {
+        if Bucket::question(peak, burst, mean).is_some() {
             return Bucket {
                 peak: 0,
                 burst: 0,
@@ -63,10 +63,7 @@ impl Envelope for Bucket {
     ghost lawful = { λ e. bucket_lawful e.peak e.burst e.mean (fine e.peak e.burst e.mean e.within e.unbroken) };
 
     fn bound(&self, k: u8) -> Option<u64> {
-        if k as usize > HORIZON {
-            return None;
-        }
-        let days = k as u64;
+        let days = within_horizon(k)? as u64;
         Some((days * self.peak).min(self.burst + days * self.mean))
     }
 
