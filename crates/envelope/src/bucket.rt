@@ -32,6 +32,7 @@ impl Bucket {
     pub fn question(peak: u64, burst: u64, mean: u64) -> Option<Refusal>
         ensures { Answered bucket_ranges (peak ∷ burst ∷ mean ∷ []) (BelowMean peak mean) result }
     {
+        // A chain by `or_else` is no plainer, and its proof is not found.
         if let Some(place) = first_out(&[peak, burst, mean], &RANGES) {
             return Some(Refusal::OutOfRange(place));
         }
@@ -63,6 +64,7 @@ impl Envelope for Bucket {
     ghost lawful = { λ e. bucket_lawful e.peak e.burst e.mean (fine e.peak e.burst e.mean e.within e.unbroken) };
 
     fn bound(&self, k: u8) -> Option<u64> {
+        // `as`: there is no `u64::from` of a `usize`.
         let days = within_horizon(k)? as u64;
         Some((days * self.peak).min(self.burst + days * self.mean))
     }

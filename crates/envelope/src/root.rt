@@ -59,6 +59,7 @@ impl Envelope for Root {
     ghost lawful = { λ e. root_lawful e.mean e.w e.within };
 
     fn bound(&self, k: u8) -> Option<u64> {
+        // `as`: there is no `u64::from` of a `usize`.
         let days = within_horizon(k)? as u64;
         Some(days * self.mean + least_root(days * self.w))
     }

@@ -31,6 +31,7 @@ impl Table {
     pub fn question(mean: u64, bounds: [u64; HORIZON]) -> Option<Refusal>
         ensures { Answered table_ranges (mean ∷ bounds) (BrokenAt mean bounds) result }
     {
+        // One test after the other, since the rows stand on what each shows.
         if !DAILY.holds(mean) {
             return Some(Refusal::OutOfRange(1));
         }
