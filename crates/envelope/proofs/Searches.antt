@@ -12,7 +12,7 @@ use denote.Ref.{Bor}
 
 -- what holds of the item of a place holds of its number
 of_item : (P : ℕ → Type 0) (o : Option ℕ) (x : ℕ) → option_map (λ y. y) o ≡ Some x → IfSome o P → P x
-of_item P None x e h = let z : ◌≡◌ {A = ℕ} 0 1 = cc in absurd (omega arith)
+of_item P None x e h = absurd (cc)
 of_item P (Some y) x e h = let s : y ≡ x = cc in subst P s h
 
 -- what holds of some item

@@ -39,8 +39,8 @@ impl Rows<'_> {
         requires { (1 ≤ k) × (k ≤ horizon) }
         ensures { MatchBool result (Breaks self.now.mean self.now.bounds.now k) (Breaks self.now.mean self.now.bounds.now k → ⊥) }
     {
-        // `as`: there is no `u64::from` of a `usize`.
         let bound = row(self.bounds, k);
+        // `as`: there is no `u64::from` of a `usize`.
         bound < row(self.bounds, k - 1) || bound < k as u64 * self.mean || self.torn(k)
     }
 

@@ -1,5 +1,5 @@
 -- Each order takes a step of the curve.
-use Rattle.std.proofs.Common.{rules, ◌≡◌, ◌+◌, ◌-◌, get_or, arith}
+use Rattle.std.proofs.Common.{rules, ◌≡◌, ℕ, ◌+◌, ◌-◌, ◌<◌, get_or, arith}
 use Rattle.figures.specs.Days.{horizon}
 use Rattle.envelope.proofs.Arrays.{from_fn_at}
 use Rattle.envelope.proofs.Climbs.{climbs}
@@ -11,6 +11,7 @@ returns g c =
     let bound = (g.E.Envelope.meaning e).bound in
     let orders = c.from_fn.result in
     let made = c.from_fn.ensures.items in
-    climbs (g.E.Envelope.meaning e) orders (g.met.E.Envelope.lawful e) made.long
-    (λ k h. let called = from_fn_at orders (search rules) 0 horizon made.each k 0 (omega arith) (omega arith) in
-    let step : get_or orders k 0 ≡ bound (k + 1) - bound k = search (rules, called) in step)
+    let called = from_fn_at orders (search rules) 0 horizon made.each in
+    let step : (k : ℕ) → k < horizon → get_or orders k 0 ≡ bound (k + 1) - bound k =
+    λ k h. search (rules, called k 0 (omega arith) (omega arith)) in
+    climbs (g.E.Envelope.meaning e) orders (g.met.E.Envelope.lawful e) made.long step

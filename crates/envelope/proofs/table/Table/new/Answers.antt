@@ -16,13 +16,13 @@ invariant_of-result c = record { wide = refl; within = zeros_in; unbroken = zero
 -- a refusal is no pass, and no refusal is one
 refused : (ranges : List Range) (figures : List ℕ) (Broken : ℕ → Type 0) (o : Option Refusal) → is_some o ≡ true →
     Answered ranges figures Broken o → Answered ranges figures Broken None → ⊥
-refused ranges figures Broken None e told pass = let z : ◌≡◌ {A = ℕ} 0 1 = cc in absurd (omega arith)
+refused ranges figures Broken None e told pass = absurd (cc)
 refused ranges figures Broken (Some why) e told pass = never_both ranges figures Broken why told pass
 
 passed : (ranges : List Range) (figures : List ℕ) (Broken : ℕ → Type 0) (o : Option Refusal) → is_some o ≡ false →
     Answered ranges figures Broken o → Answered ranges figures Broken None
 passed ranges figures Broken None e told = told
-passed ranges figures Broken (Some why) e told = let z : ◌≡◌ {A = ℕ} 0 1 = cc in absurd (omega arith)
+passed ranges figures Broken (Some why) e told = absurd (cc)
 
 pub returns-then-is_some-clause-kept : goal.returns-then-is_some-clause-kept
 returns-then-is_some-clause-kept c pass =
