@@ -1,6 +1,6 @@
 -- Least roots: each number has one, and how it grows.
 use Rattle.std.specs.Prelude.{◌≡◌, ℕ, zero, suc, ◌+◌, ◌*◌, ◌<◌, ◌≤◌, leb, Some, None, Option, nat_le, refl}
-use Rattle.std.proofs.Common.{⊎_elim, zero-le, add-mul, mul-add, mul-one, mul-le-mul, mul-le-mul_left, arith}
+use Rattle.std.proofs.Common.{⊎_elim, zero-le, add-mul, mul-add, mul-le-mul, mul-le-mul_left, arith}
 use Rattle.std.specs.Option.{unwrap_or}
 use Rattle.std.proofs.lemmas.Bool.{cases_lt, both_ways, leb-true, leb-false, le-leb}
 use Rattle.figures.specs.Least.{least}
@@ -23,10 +23,7 @@ square_sum a b =
 -- a square is no smaller than its root
 square_above : (n : ℕ) → n ≤ n * n
 square_above zero = zero-le
-square_above (suc n) = let p = mul-le-mul_left (suc n) (one_le n) in omega (arith, mul-one (suc n))
-  where
-    one_le : (n : ℕ) → 1 ≤ suc n
-    one_le n = omega arith
+square_above (suc n) = let one : 1 ≤ suc n = omega arith in omega (arith, mul-le-mul_left (suc n) one)
 
 root_from : (n : ℕ) (o : Option ℕ) → least (λ r. leb n (r * r)) 0 (suc n) ≡ o → LeastRoot n (unwrap_or o 0)
 root_from n None e =

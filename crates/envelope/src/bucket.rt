@@ -6,7 +6,7 @@ ghost use Rattle.envelope.specs.Buckets.{bucket_ranges, BelowMean, BucketPasses,
 ghost use Rattle.envelope.specs.BucketsLemmas.{fine, bucket_lawful};
 
 use crate::envelope::{DAILY, Envelope};
-use figures::{HORIZON, Range, Refusal, first_out};
+use figures::{Range, Refusal, first_out, within_horizon};
 
 /// The range of the burst.
 pub const BURSTS: Range = Range {
@@ -32,6 +32,7 @@ impl Bucket {
     pub fn question(peak: u64, burst: u64, mean: u64) -> Option<Refusal>
         ensures { Answered bucket_ranges (peak ∷ burst ∷ mean ∷ []) (BelowMean peak mean) result }
     {
+        // A chain by `or_else` is no plainer, and its proof is not found.
         if let Some(place) = first_out(&[peak, burst, mean], &RANGES) {
             return Some(Refusal::OutOfRange(place));
         }
@@ -46,7 +47,7 @@ impl Bucket {
         ensures kept { BucketPasses peak burst mean → (result.peak ≡ peak) × (result.burst ≡ burst) × (result.mean ≡ mean) }
         ensures refused { (BucketPasses peak burst mean → ⊥) → (result.peak ≡ 0) × (result.burst ≡ 0) × (result.mean ≡ 0) }
     {
-        if let Some(_) = Bucket::question(peak, burst, mean) {
+        if Bucket::question(peak, burst, mean).is_some() {
             return Bucket {
                 peak: 0,
                 burst: 0,
@@ -63,10 +64,8 @@ impl Envelope for Bucket {
     ghost lawful = { λ e. bucket_lawful e.peak e.burst e.mean (fine e.peak e.burst e.mean e.within e.unbroken) };
 
     fn bound(&self, k: u8) -> Option<u64> {
-        if k as usize > HORIZON {
-            return None;
-        }
-        let days = k as u64;
+        // `as`: there is no `u64::from` of a `usize`.
+        let days = within_horizon(k)? as u64;
         Some((days * self.peak).min(self.burst + days * self.mean))
     }
 

@@ -6,7 +6,7 @@ ghost use Rattle.envelope.specs.Roots.{LeastRoot, root_up, root_ranges, RootPass
 ghost use Rattle.envelope.specs.RootsLemmas.{root_lawful};
 
 use crate::envelope::{DAILY, Envelope};
-use figures::{HORIZON, Range, Refusal, range_refusal};
+use figures::{Range, Refusal, range_refusal, within_horizon};
 
 /// The range of `w`.
 pub const SPREADS: Range = Range {
@@ -17,22 +17,12 @@ pub const SPREADS: Range = Range {
 /// The ranges of the mean and of `w`.
 const RANGES: [Range; 2] = [DAILY, SPREADS];
 
-/// The least number whose square reaches `n`, found by halving a stretch that holds it.
+/// The least number whose square reaches `n`: one above the root of `n - 1`, rounded down.
 pub fn least_root(n: u64) -> u64
     ensures rule { LeastRoot n result }
     ensures value { result ≡ root_up n }
 {
-    let mut low: u64 = 0;
-    let mut high: u64 = 4_294_967_296;
-    while low < high {
-        let middle = (low + high) / 2;
-        if n <= middle * middle {
-            high = middle;
-        } else {
-            low = middle + 1;
-        }
-    }
-    low
+    if n == 0 { 0 } else { (n - 1).isqrt() + 1 }
 }
 
 /// `k` days ask for at most `k` times the mean and the least root of `k` times `w`.
@@ -56,7 +46,7 @@ impl Root {
         ensures kept { RootPasses mean w → (result.mean ≡ mean) × (result.w ≡ w) }
         ensures refused { (RootPasses mean w → ⊥) → (result.mean ≡ 0) × (result.w ≡ 0) }
     {
-        if let Some(_) = Root::question(mean, w) {
+        if Root::question(mean, w).is_some() {
             return Root { mean: 0, w: 0 };
         }
         Root { mean, w }
@@ -69,10 +59,8 @@ impl Envelope for Root {
     ghost lawful = { λ e. root_lawful e.mean e.w e.within };
 
     fn bound(&self, k: u8) -> Option<u64> {
-        if k as usize > HORIZON {
-            return None;
-        }
-        let days = k as u64;
+        // `as`: there is no `u64::from` of a `usize`.
+        let days = within_horizon(k)? as u64;
         Some(days * self.mean + least_root(days * self.w))
     }
 

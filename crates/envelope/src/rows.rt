@@ -15,38 +15,39 @@ pub(crate) fn row(bounds: &[u64; HORIZON], k: usize) -> u64
     if k == 0 { 0 } else { bounds[k - 1] }
 }
 
-/// Whether the bound of `k` days is above the bounds of two parts of them.
-pub(crate) fn torn(bounds: &[u64; HORIZON], k: usize) -> bool
-    requires { (k ≤ horizon) × (Bounded bounds.now) }
-    ensures { MatchBool result (Torn bounds.now k) (Torn bounds.now k → ⊥) }
-{
-    let whole = row(bounds, k);
-    for i in 1..k {
-        if row(bounds, i) + row(bounds, k - i) < whole {
-            return true;
-        }
-    }
-    false
+/// A mean and bounds that are in their ranges.
+#[derive(Clone, Copy)]
+pub(crate) struct Rows<'a> {
+    pub mean: u64,
+    pub bounds: &'a [u64; HORIZON],
+    ghost daily: { Within daily mean },
+    ghost bounded: { Bounded bounds.now },
 }
 
-/// Whether the bound of `k` days breaks a law.
-pub(crate) fn breaks(mean: u64, bounds: &[u64; HORIZON], k: usize) -> bool
-    requires { (1 ≤ k) × ((k ≤ horizon) × ((Within daily mean) × (Bounded bounds.now))) }
-    ensures { MatchBool result (Breaks mean bounds.now k) (Breaks mean bounds.now k → ⊥) }
-{
-    let bound = row(bounds, k);
-    bound < row(bounds, k - 1) || bound < k as u64 * mean || torn(bounds, k)
-}
-
-/// The least number of days whose bound breaks a law, or none.
-pub(crate) fn first_broken(mean: u64, bounds: &[u64; HORIZON]) -> Option<usize>
-    requires { (Within daily mean) × (Bounded bounds.now) }
-    ensures { MatchOption result (Unbroken mean bounds.now horizon) (λ k. FirstBroken mean bounds.now k) }
-{
-    for k in 1..=HORIZON {
-        if breaks(mean, bounds, k) {
-            return Some(k);
-        }
+impl Rows<'_> {
+    /// Whether the bound of `k` days is above the bounds of two parts of them.
+    fn torn(&self, k: usize) -> bool
+        requires { k ≤ horizon }
+        ensures { MatchBool result (Torn self.now.bounds.now k) (Torn self.now.bounds.now k → ⊥) }
+    {
+        let whole = row(self.bounds, k);
+        (1..k).any(|i| row(self.bounds, i) + row(self.bounds, k - i) < whole)
     }
-    None
+
+    /// Whether the bound of `k` days breaks a law.
+    fn breaks(&self, k: usize) -> bool
+        requires { (1 ≤ k) × (k ≤ horizon) }
+        ensures { MatchBool result (Breaks self.now.mean self.now.bounds.now k) (Breaks self.now.mean self.now.bounds.now k → ⊥) }
+    {
+        let bound = row(self.bounds, k);
+        // `as`: there is no `u64::from` of a `usize`.
+        bound < row(self.bounds, k - 1) || bound < k as u64 * self.mean || self.torn(k)
+    }
+
+    /// The least number of days whose bound breaks a law, or none.
+    pub(crate) fn first_broken(&self) -> Option<usize>
+        ensures { MatchOption result (Unbroken self.now.mean self.now.bounds.now horizon) (λ k. FirstBroken self.now.mean self.now.bounds.now k) }
+    {
+        (1..=HORIZON).find(|&k| self.breaks(k))
+    }
 }

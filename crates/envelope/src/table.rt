@@ -7,8 +7,8 @@ ghost use Rattle.envelope.specs.Tables.{table_ranges, BrokenAt, TablePasses, tab
 ghost use Rattle.envelope.specs.TablesLemmas.{no_days, table_lawful};
 
 use crate::envelope::{DAILY, Envelope};
-use crate::rows::{first_broken, row};
-use figures::{HORIZON, MOST_PIECES, Range, Refusal, first_out};
+use crate::rows::{Rows, row};
+use figures::{HORIZON, MOST_PIECES, Range, Refusal, first_out, within_horizon};
 
 /// The range of each bound.
 const BOUNDS: [Range; HORIZON] = [Range {
@@ -31,16 +31,18 @@ impl Table {
     pub fn question(mean: u64, bounds: [u64; HORIZON]) -> Option<Refusal>
         ensures { Answered table_ranges (mean ∷ bounds) (BrokenAt mean bounds) result }
     {
+        // One test after the other, since the rows stand on what each shows.
         if !DAILY.holds(mean) {
             return Some(Refusal::OutOfRange(1));
         }
         if let Some(place) = first_out(&bounds, &BOUNDS) {
             return Some(Refusal::OutOfRange(place + 1));
         }
-        match first_broken(mean, &bounds) {
-            Some(k) => Some(Refusal::LawBroken(k + 1)),
-            None => None,
-        }
+        let rows = Rows {
+            mean,
+            bounds: &bounds,
+        };
+        rows.first_broken().map(|k| Refusal::LawBroken(k + 1))
     }
 
     /// The table of these figures; where the question refuses them, all are 0.
@@ -48,7 +50,7 @@ impl Table {
         ensures kept { TablePasses mean bounds → (result.mean ≡ mean) × (result.bounds ≡ bounds) }
         ensures refused { (TablePasses mean bounds → ⊥) → (result.mean ≡ 0) × (result.bounds ≡ replicate horizon 0) }
     {
-        if let Some(_) = Table::question(mean, bounds) {
+        if Table::question(mean, bounds).is_some() {
             return Table {
                 mean: 0,
                 bounds: [0; HORIZON],
@@ -64,10 +66,8 @@ impl Envelope for Table {
     ghost lawful = { λ e. table_lawful e.mean e.bounds e.wide e.within (no_days e.mean e.bounds e.unbroken) };
 
     fn bound(&self, k: u8) -> Option<u64> {
-        if k as usize > HORIZON {
-            return None;
-        }
-        Some(row(&self.bounds, k as usize))
+        let days = within_horizon(k)?;
+        Some(row(&self.bounds, days))
     }
 
     fn mean(&self) -> u64 {

@@ -1,19 +1,13 @@
--- Halving keeps the least root in the stretch.
-use Rattle.std.proofs.Common.{◌≡◌, ◌+◌, ◌*◌, ◌/◌, ◌<◌, ◌≤◌, subst, arith}
+-- What is found is the least root.
+use Rattle.std.proofs.Common.{◌+◌, arith}
 use Rattle.envelope.specs.LeastRoots.{above-short, is_root_up}
 use Rattle.envelope.proofs.root.least_root.Goals as goal
 
--- the middle falls short, so the root is above it
-pub loop-low-preserved : goal.loop-low-preserved
-loop-low-preserved c =
-    let middle = (c.loop-low.low + c.loop-low.high) / 2 in
-    let short : middle * middle < c.args.n = omega arith in
-    (omega arith, omega arith, omega arith, λ s h. omega (arith, above-short c.args.n middle s short h))
+pub returns-then-n-eq0-clause-value : goal.returns-then-n-eq0-clause-value
+returns-then-n-eq0-clause-value c = is_root_up c.args.n 0 (omega arith, λ s h. omega arith)
 
--- nothing is left of the stretch but the root
-pub returns : goal.returns
-returns c =
+pub returns-else-n-eq0-clause-value : goal.returns-else-n-eq0-clause-value
+returns-else-n-eq0-clause-value c =
     let n = c.args.n in
-    let e : c.loop-low.high ≡ c.loop-low.low = omega arith in
-    let reach = subst (λ r. n ≤ r * r) e c.loop-low.invariant.2 in
-    record { rule = (reach, c.loop-low.invariant.3); value = is_root_up n c.loop-low.low (reach, c.loop-low.invariant.3) }
+    let r = c.isqrt.result in
+    is_root_up n (r + 1) (omega (arith, c.isqrt.ensures.next_square_gt), λ s h. omega (arith, above-short n r s (omega arith) h))
