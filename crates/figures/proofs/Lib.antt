@@ -1,4 +1,4 @@
 pub mod Answered
 pub mod Least
 pub mod Totals
-pub mod Made
+pub mod Arrays

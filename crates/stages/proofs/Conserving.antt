@@ -10,9 +10,9 @@ use Rattle.stages.specs.declared.goods.Goods.{Goods}
 use Rattle.stages.specs.Stages.{Tied, book_of}
 use Rattle.stages.specs.Conservation.{StageConserves}
 
-pub stage_conserves : (ok : Type 0) (m : Meaning) (own : Stock) (goods : Goods) → goods.on_shelf ≡ own.shelf →
-    goods.in_process ≡ window own.process (orders_of own.works) → Tied ok m own → StageConserves m own goods
-stage_conserves ok m own goods s p v orders b =
+pub stage_conserves : (m : Meaning) (own : Stock) (goods : Goods) → goods.on_shelf ≡ own.shelf →
+    goods.in_process ≡ window own.process (orders_of own.works) → Tied m own → StageConserves m own goods
+stage_conserves m own goods s p v orders b =
     let from = m.service.quote + own.process in
     let x = between m.service.quote from (book_of own) orders b (omega arith) v.within in
     let y = between own.quote from (book_of own) orders b v.early v.within in

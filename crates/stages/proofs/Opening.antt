@@ -19,14 +19,13 @@ joins_copied bound table copy joins i j h =
     let z = joins i j h in
     omega arith
 
-pub tied_new : (ok : Type 0) (m : Meaning) (bound : ℕ → ℕ) (number process quote base : ℕ) (table : List ℕ) (own : Stock) → ok → Sound m →
-    StagePasses m bound number process quote base → Copies bound table → Stocked number table process quote base own → Tied ok m own
-tied_new ok m bound number process quote base table own o sound (ranges, unused, (within, early), under, room) copy e =
+pub tied_new : (m : Meaning) (bound : ℕ → ℕ) (number process quote base : ℕ) (table : List ℕ) (own : Stock) → Sound m →
+    StagePasses m bound number process quote base → Copies bound table → Stocked number table process quote base own → Tied m own
+tied_new m bound number process quote base table own sound (ranges, unused, (within, early), under, room) copy e =
     let none = fresh m.service.days m.service.book sound.service.before unused sound.service.long in
     let from : m.service.quote + own.process ≡ m.service.quote + process = ap (λ n. m.service.quote + n) e.time in
     let qu = e.quoted in
     record {
-      below_ok = o;
       same = e.orders ∙ sym none;
       together = e.unused ∙ sym unused;
       early = omega arith;

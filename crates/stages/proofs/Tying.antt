@@ -5,8 +5,10 @@ use Rattle.figures.proofs.Totals.{part_of_front, window_front, span_front, span-
 use Rattle.supplier.specs.declared.line.Kind.TheVariants as kind
 use Rattle.supplier.specs.Orders.{term, entered, due, Fits, FitsWithin}
 use Rattle.supplier.specs.Books.{orders_of}
+use Rattle.supplier.specs.Finders.{finds, Plain}
 use Rattle.supplier.specs.Ledgers.{Entry}
 use Rattle.supplier.specs.Meaning.{Service, Meaning, Steady, Taken}
+use Rattle.supplier.proofs.Finders.{finds_plain}
 use Rattle.supplier.proofs.Services.{free-taken}
 use Rattle.layers.proofs.Rows.{arrives, row_step, due-small}
 use Rattle.stages.specs.declared.stock.Stock.{Stock}
@@ -18,6 +20,24 @@ pub never_refused : (s : Service) (bound : ℕ → ℕ) (q : ℕ) → Steady s �
     s.days < term → Fits bound s.book q → s.refusal q ≡ None
 never_refused s bound q steady under l fits =
     free-taken s.limit s.days s.book q (s.refusal q) l (λ k a b. let x = fits k a b in let y = under k a b in omega arith) (steady.refusals q)
+
+-- what it shows that a stage takes an order: it is not refused below either
+pub record Freed (m : Meaning) (own : Stock) (q : ℕ) : Type 0 where
+  pub free : m.service.refusal q ≡ None
+  pub fits : Fits (bound_of own) (book_of own) q
+  pub little : q ≤ most
+
+pub freed : (m : Meaning) (own : Stock) (q : ℕ) → Steady m.service → Tied m own →
+    finds own.ledger.number (bound_of own) own.ledger.days (book_of own) q ≡ None → Freed m own q
+freed m own q steady v e =
+    let l = own.ledger in
+    let plain : (l.days < term) × Fits (bound_of own) (book_of own) q =
+    subst (Plain l.number (bound_of own) l.days (book_of own) q) e (finds_plain l.number (bound_of own) l.days (book_of own) q l.until) in
+    record {
+      free = never_refused m.service (bound_of own) q steady v.under (let d = v.together in omega (arith, plain.0)) (subst (λ b. Fits (bound_of own) b q) v.same plain.1);
+      fits = plain.1;
+      little = let a : q + 0 ≤ bound_of own 1 = plain.1 1 (omega arith) (omega arith) in let h = l.limits.high 0 in omega arith;
+    }
 
 -- every stretch of orders stays within its bound
 pub within-pushed : (n : ℕ) (bound : ℕ → ℕ) (book : List ℕ) (q : ℕ) → WithinBounds n bound book → FitsWithin n bound book q → WithinBounds n bound (pushed n q book)
@@ -37,8 +57,8 @@ stage_line_step number number' base base' quote quote' from from' q delivered bo
     (span_front horizon quote from (q ∷ book) early near)
 
 module _
-    (ok ok' : Type 0) (m m' : Meaning) (own mid own' : Stock) (q received delivery : ℕ)
-    (t : Tied ok m own) (o : ok') (k : Taken m.service q m'.service) (entry : Entry own.ledger q mid.ledger)
+    (m m' : Meaning) (own mid own' : Stock) (q received delivery : ℕ)
+    (t : Tied m own) (k : Taken m.service q m'.service) (entry : Entry own.ledger q mid.ledger)
     (process : mid.process ≡ own.process) (quote : mid.quote ≡ own.quote) (base : mid.base ≡ own.base) (shelf : mid.shelf ≡ own.shelf)
     (works : orders_of mid.works ≡ orders_of own.works)
     (s : Restocked mid received delivery own')
@@ -79,13 +99,12 @@ module _
         let e = s.shelf in
         omega arith
 
-    pub tied_step : Tied ok' m' own'
+    pub tied_step : Tied m' own'
     tied_step =
         let qu : own'.quote ≡ own.quote = s.quote ∙ quote in
         let pr : own'.process ≡ own.process = s.process ∙ process in
         let ba : own'.base ≡ own.base = s.base ∙ base in
         record {
-          below_ok = o;
           same = book-entered ∙ ap (entered q) t.same ∙ sym k.book;
           together = ap (λ l. l.days) s.ledger ∙ entry.days ∙ ap (λ n. n + 1) t.together ∙ sym k.days;
           early = let a = t.early in let b = from-kept in omega arith;

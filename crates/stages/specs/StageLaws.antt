@@ -26,9 +26,9 @@ allowed_bound own zero = refl
 allowed_bound own (suc k) = refl
 
 -- its own shelf stands first, and those below it one place later
-pub staged_shelved : (ok : Type 0) (own : Stock) (m : Meaning) (ps : List Placed) → Tied ok m own → AllByRecursion (Shelved m) ps →
+pub staged_shelved : (own : Stock) (m : Meaning) (ps : List Placed) → Tied m own → AllByRecursion (Shelved m) ps →
     AllByRecursion (Shelved (staged own m)) (own_shelf own.base own.quote (m.service.quote + own.process) ∷ map later ps)
-staged_shelved ok own m ps tied all =
+staged_shelved own m ps tied all =
     let from = m.service.quote + own.process in
     let a = one-mul (allowed (bound_of own) (from - own.quote)) in
     let b = one-mul (span own.quote from (book_of own)) in

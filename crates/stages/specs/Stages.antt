@@ -43,8 +43,7 @@ abbrev pub WithinBounds : ℕ → (ℕ → ℕ) → List ℕ → Type 0
 WithinBounds n bound book = (j k : ℕ) → j + k ≤ n → total (take k (drop j book)) ≤ bound k
 
 -- what ties a stage to what lies below it
-pub record Tied (ok : Type 0) (below : Meaning) (own : Stock) : Type 0 where
-  pub below_ok : ok
+pub record Tied (below : Meaning) (own : Stock) : Type 0 where
   pub same : book_of own ≡ below.service.book
   pub together : own.ledger.days ≡ below.service.days
   pub early : own.quote ≤ below.service.quote + own.process

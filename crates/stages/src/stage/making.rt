@@ -12,7 +12,7 @@ use crate::stage::bounds::{copied, under};
 use crate::stock::Stock;
 use envelope::Envelope;
 use figures::{HORIZON, MOST_PIECES, Range, Refusal, range_refusal};
-use layers::{Idle, Layer};
+use layers::Layer;
 use supplier::{Book, Kind, Ledger, Limits, NUMBERS, Supplier, kept_number};
 
 /// A stage over a supplier, as its making gives it.
@@ -63,7 +63,7 @@ impl<S: Supplier> Staging<S> {
         envelope: &E,
     ) -> Option<Refusal>
         ensures ranged { IfNone result (AllIn stage_ranges (number ∷ process ∷ quote ∷ base ∷ [])) }
-        ensures asked { S.Supplier.valid below.now → StageAsked (S.Supplier.meaning below.now) (E.Envelope.meaning envelope.now).bound number process quote base result }
+        ensures asked { StageAsked (S.meaning below.now) (E.meaning envelope.now).bound number process quote base result }
     {
         if let Some(refusal) = range_refusal(&[number, process, quote, base], &RANGES) {
             return Some(refusal);
@@ -71,7 +71,7 @@ impl<S: Supplier> Staging<S> {
         if below.days() != 0 {
             return Some(Refusal::Started);
         }
-        let ready = (below.quote() as u64).saturating_add(process);
+        let ready = u64::from(below.quote()).saturating_add(process);
         if ready > HORIZON as u64 || quote > ready {
             return Some(Refusal::Misfit);
         }
@@ -93,11 +93,11 @@ impl<S: Supplier> Staging<S> {
         base: u64,
         envelope: &E,
     ) -> Stage<S>
-        ensures { S.Supplier.valid below → Given (StagePasses (S.Supplier.meaning below) (E.Envelope.meaning envelope.now).bound number process quote base)
-            (StageNew S.Supplier.valid S.Supplier.meaning below (E.Envelope.meaning envelope.now).bound number process quote base) Kind.Stage (named number) below result }
+        ensures { Given (StagePasses (S.meaning below) (E.meaning envelope.now).bound number process quote base)
+            (StageNew S.Supplier below (E.meaning envelope.now).bound number process quote base) Kind.Stage (named number) below result }
     {
-        if let Some(_) = Staging::question(&below, number, process, quote, base, envelope) {
-            return Layer::Idle(Idle::new(kept_number(number), Kind::Stage), below);
+        if Staging::question(&below, number, process, quote, base, envelope).is_some() {
+            return Layer::resting(number, Kind::Stage, below);
         }
         let own = stocked(
             kept_number(number),

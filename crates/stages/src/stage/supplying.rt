@@ -1,29 +1,27 @@
 // A stage at work as a supplier.
 ghost use Rattle.std.specs.Prelude.{◌+◌, ◌∷◌, map, Some};
 ghost use Rattle.layers.specs.Sheets.{later};
-ghost use Rattle.stages.specs.Stages.{staged, stage_layout, own_shelf, bound_of, Tied};
+ghost use Rattle.stages.specs.Stages.{staged, stage_layout, own_shelf, bound_of};
 ghost use Rattle.stages.specs.StageLaws.{staged_sound, staged_shelved, staged_enveloped};
 
 use crate::stage::Staging;
-use layers::send;
-use supplier::{Fault, Kind, Line, Supplier};
+use layers::{lines_over, send};
+use supplier::{Fault, Kind, Line, MOST_LINES, Supplier};
 
 impl<S: Supplier> Supplier for Staging<S> {
-    ghost valid = { λ s. Tied (S.Supplier.valid s.below) (S.Supplier.meaning s.below) s.own };
+    ghost meaning = { λ s. staged s.own (S.meaning s.below) };
 
-    ghost meaning = { λ s. staged s.own (S.Supplier.meaning s.below) };
+    ghost layout = { λ s. stage_layout s.own.ledger.number s.own.base s.own.quote ((S.meaning s.below).service.quote + s.own.process) (S.layout s.below) };
 
-    ghost layout = { λ s. stage_layout s.own.ledger.number s.own.base s.own.quote ((S.Supplier.meaning s.below).service.quote + s.own.process) (S.Supplier.layout s.below) };
-
-    ghost shelves = { λ s. own_shelf s.own.base s.own.quote ((S.Supplier.meaning s.below).service.quote + s.own.process) ∷ map later (S.Supplier.shelves s.below) };
+    ghost shelves = { λ s. own_shelf s.own.base s.own.quote ((S.meaning s.below).service.quote + s.own.process) ∷ map later (S.shelves s.below) };
 
     ghost envelope = { λ s. Some (bound_of s.own) };
 
-    ghost sound = { λ s v. staged_sound s.own (S.Supplier.meaning s.below) };
+    ghost sound = { λ s. staged_sound s.own (S.meaning s.below) };
 
-    ghost shelved = { λ s v. staged_shelved (S.Supplier.valid s.below) s.own (S.Supplier.meaning s.below) (S.Supplier.shelves s.below) v (S.Supplier.shelved s.below v.below_ok) };
+    ghost shelved = { λ s. staged_shelved s.own (S.meaning s.below) (S.shelves s.below) s.tied (S.Supplier.shelved s.below) };
 
-    ghost enveloped = { λ s v. staged_enveloped s.own (S.Supplier.meaning s.below) (map later (S.Supplier.shelves s.below)) };
+    ghost enveloped = { λ s. staged_enveloped s.own (S.meaning s.below) (map later (S.shelves s.below)) };
 
     fn quote(&self) -> u8 {
         self.own.quote
@@ -38,11 +36,11 @@ impl<S: Supplier> Supplier for Staging<S> {
     }
 
     fn lines(&self) -> usize {
-        self.below.lines().saturating_add(1).min(1_000)
+        lines_over(self.below.lines())
     }
 
     fn line(&self, i: usize) -> Option<Line> {
-        if i >= 1_000 {
+        if i >= MOST_LINES {
             return None;
         }
         if i > 0 {
@@ -64,13 +62,9 @@ impl<S: Supplier> Supplier for Staging<S> {
 
     fn day(&mut self, q: u64) -> Result<u64, Fault> {
         let due = self.own.ledger.book.due(self.own.quote, q).unwrap_or(0);
-        match self.own.ledger.take(q) {
-            Err(fault) => Err(fault),
-            Ok(()) => {
-                let received = send(&mut self.below, q);
-                self.own.restock(received, due);
-                Ok(due)
-            }
-        }
+        self.own.ledger.take(q)?;
+        let received = send(&mut self.below, q);
+        self.own.restock(received, due);
+        Ok(due)
     }
 }

@@ -1,7 +1,7 @@
 -- Each order takes a step of the curve.
 use Rattle.std.proofs.Common.{rules, ◌≡◌, ℕ, ◌+◌, ◌-◌, ◌<◌, get_or, arith}
 use Rattle.figures.specs.Days.{horizon}
-use Rattle.envelope.proofs.Arrays.{from_fn_at}
+use Rattle.figures.proofs.Arrays.{from_fn_at}
 use Rattle.envelope.proofs.Climbs.{climbs}
 use Rattle.envelope.proofs.climb.climbing.Goals as goal
 
