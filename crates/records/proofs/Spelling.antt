@@ -1,14 +1,15 @@
 -- The words that write numbers: their digits, and their values.
-use Rattle.std.proofs.Common.{◌≡◌, ℕ, ◌+◌, ◌-◌, ◌*◌, ◌^◌, ◌<◌, ◌≤◌, List, length, get_or, take, decimal, sym, ap, ◌∙◌, subst, ⊎_elim, pow-suc, add-one, arith}
-use native.Mathlib.Nat.{pow-le-pow_right}
+use Rattle.std.proofs.Common.{◌≡◌, ℕ, ◌^◌, ◌<◌, ◌≤◌, ◌≢◌, List, length, get_or, Ok, Err, Result, Bor, MatchResult, Some, None, decimal, sym, ap, ◌∙◌, subst, ⊎_elim, arith}
 use Rattle.std.specs.Int.{IsInRange}
-use Rattle.std.specs.Char.{digit_value}
-use Rattle.std.specs.Str.Parse.{digits_value}
+use Rattle.std.specs.Result.{result_ok}
+use Rattle.std.specs.Str.{IsUtf8}
+use Rattle.std.specs.Str.Parse.{digits_value, ParsesUnsigned}
 use Rattle.std.proofs.lemmas.Fmt.{decimal_is_IsNumeral, decimal_nonempty, decimal_digit, length-decimal-le, first_decimal, decimal-digits_value}
-use Rattle.std.proofs.lemmas.Int.Digits.{digits_value_more}
-use Rattle.std.proofs.lemmas.Str.Parse.{IsNumeralModel, numerals_by_value, tells_by_index, digit_at, digits_value_short}
-use Rattle.std.proofs.lemmas.Bool.{cases_lt, cond-true, cond-false, lt-ltb, le-ltb}
-use Rattle.records.specs.Numerals.{Writes, most_digits}
+use Rattle.std.proofs.lemmas.Str.{IsUtf8-from_ascii}
+use Rattle.std.proofs.lemmas.Str.Ascii.{IsAscii-from_reads}
+use Rattle.std.proofs.lemmas.Str.Parse.{IsNumeralModel, numerals_by_value, tells_by_index, digit_at, digits_value_short, parse_digits, parse_plain}
+use Rattle.std.proofs.lemmas.Bool.{cases_lt}
+use Rattle.records.specs.Numerals.{Writes, IsNoNumber, most_digits}
 
 -- what a word that writes a number looks like
 pub record Shape (w : List ℕ) : Type 0 where
@@ -44,21 +45,36 @@ shape_writes w n s e =
     let d = decimal-digits_value own w s.digits s.some s.lean (omega arith) in
     (omega arith, sym (ap decimal e ∙ d))
 
--- a digit's value
-digit_value_lem : (c : ℕ) → 48 ≤ c → c ≤ 57 → digit_value c ≡ c - 48
-digit_value_lem c a b = cond-false _ _ _ (le-ltb c 48 a) ∙ cond-true _ _ _ (lt-ltb c 58 (omega arith))
-
--- one more digit
-pub one_more : (w : List ℕ) (i n : ℕ) → i < length w → n ≡ digits_value 10 (take i w) → 48 ≤ get_or w i 0 → get_or w i 0 ≤ 57 →
-    10 * n + (get_or w i 0 - 48) ≡ digits_value 10 (take (i + 1) w)
-one_more w i n h e a b =
-    let m = digits_value_more 10 w i h in
-    let d = digit_value_lem (get_or w i 0) a b in
+-- a word that begins with a plus writes no number, nor does one with a needless leading 0
+pub plus_none : (w : List ℕ) → get_or w 0 0 ≡ 43 → IsNoNumber w
+plus_none w e n h =
+    let s = writes_shape w n h in
+    let a = s.some in
+    let d = s.digits 0 (omega arith) in
     omega arith
 
--- a number of so few digits is small
-pub few-small : (i n : ℕ) → i < most_digits → n < 10 ^ i → n < 10 ^ (most_digits - 1)
-few-small i n h s = let l : i ≤ most_digits - 1 = omega arith in let p = pow-le-pow_right {n = 10} (omega arith) l in omega arith
+pub zero_none : (w : List ℕ) → get_or w 0 0 ≡ 48 → 2 ≤ length w → IsNoNumber w
+zero_none w e long n h = let l = (writes_shape w n h).lean e in omega arith
 
-pub one-more-small : (i n d : ℕ) → n < 10 ^ i → d ≤ 9 → 10 * n + d < 10 ^ (i + 1)
-one-more-small i n d s h = let p = pow-suc 10 i in rw add-one (omega arith)
+-- nor one that is no text
+pub other_none : {E : Type 0} → (Q : E → Type 0) (w : List ℕ) (r : Result (Bor (List ℕ)) E) → MatchResult r (λ s. (s.now ≡ w) × IsUtf8 w) (λ e. (IsUtf8 w → ⊥) × Q e) → None ≡ result_ok r → IsNoNumber w
+other_none Q w (Ok t) h e = absurd (cc)
+other_none Q w (Err x) h e = λ n written.
+    h.0 (IsUtf8-from_ascii w (IsAscii-from_reads w (length w) (omega arith) (λ k l. let d = (writes_shape w n written).digits k l in omega arith)))
+
+-- nor one that `parse` does not read
+pub unread_none : {E : Type 0} → (w : List ℕ) (r : Result ℕ E) → ParsesUnsigned 64 10 w r → None ≡ result_ok r → IsNoNumber w
+unread_none w (Ok n) h e = absurd (cc)
+unread_none w (Err x) h e = λ n written.
+    let s = writes_shape w n written in
+    let v = digits_value_short own w most_digits s.digits s.few in
+    parse_digits own 64 w (Err x) h s.digits (s.some, omega arith)
+
+-- and any other word writes the number that `parse` reads
+pub read_writes : (E : Type 0) (w : List ℕ) (r : Result ℕ E) (n : ℕ) → ParsesUnsigned 64 10 w r → Some n ≡ result_ok r → get_or w 0 0 ≢ 43 → (get_or w 0 0 ≡ 48 → length w ≤ 1) → length w ≤ most_digits → Writes w n
+read_writes E w (Err e) n h same plus lean few = absurd (cc)
+read_writes E w (Ok m) n h same plus lean few =
+    let p = parse_plain own {E = E} 64 w (Ok m) h plus in
+    let some = p.0.1 in
+    let e : m ≡ n = cc in
+    shape_writes w n (record { some = some; few = few; lean = (λ e. let l = lean e in omega arith); digits = p.0.0 }) (sym e ∙ p.1)

@@ -56,17 +56,11 @@ impl PlantFault {
     {
         match self {
             PlantFault::Record(fault) => fault.place(),
-            PlantFault::Making(record, Refusal::OutOfRange(field)) => Place { record, field },
-            PlantFault::Making(record, Refusal::LawBroken(field)) => Place { record, field },
-            PlantFault::Making(record, _) => Place { record, field: 0 },
-            PlantFault::LongFile => Place {
-                record: 0,
-                field: 0,
-            },
-            PlantFault::Day(_) => Place {
-                record: 0,
-                field: 0,
-            },
+            PlantFault::Making(record, Refusal::OutOfRange(field) | Refusal::LawBroken(field)) => {
+                Place { record, field }
+            }
+            PlantFault::Making(record, _) => Place::of_record(record),
+            PlantFault::LongFile | PlantFault::Day(_) => Place::default(),
         }
     }
 }

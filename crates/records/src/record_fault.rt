@@ -49,10 +49,8 @@ impl RecordFault {
     {
         match self {
             RecordFault::Word(fault) => fault.place(),
-            RecordFault::LawBroken(place) => place,
-            RecordFault::NoMark(record) => Place { record, field: 0 },
-            RecordFault::FieldCount(place) => place,
-            RecordFault::LongLine(record) => Place { record, field: 0 },
+            RecordFault::LawBroken(place) | RecordFault::FieldCount(place) => place,
+            RecordFault::NoMark(record) | RecordFault::LongLine(record) => Place::of_record(record),
         }
     }
 }

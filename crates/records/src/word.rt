@@ -32,13 +32,15 @@ impl<'a> Word<'a> {
         ensures { FigureRead self.entry range result }
     {
         match self {
-            Word::Mark(_, place) => Err(WordFault::NoNumber(place)),
-            Word::Junk(_, place) => Err(WordFault::NoNumber(place)),
-            Word::Number(part, place) => match number(part) {
-                None => Err(WordFault::NoNumber(place)),
-                Some(figure) if range.holds(figure) => Ok(figure),
-                Some(_) => Err(WordFault::OutOfRange(place)),
-            },
+            Word::Number(part, place) => {
+                let figure = number(part).ok_or(WordFault::NoNumber(place))?;
+                if range.holds(figure) {
+                    Ok(figure)
+                } else {
+                    Err(WordFault::OutOfRange(place))
+                }
+            }
+            Word::Mark(_, place) | Word::Junk(_, place) => Err(WordFault::NoNumber(place)),
         }
     }
 }
