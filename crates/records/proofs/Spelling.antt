@@ -2,12 +2,12 @@
 use Rattle.std.proofs.Common.{◌≡◌, ℕ, ◌^◌, ◌<◌, ◌≤◌, ◌≢◌, List, length, get_or, Ok, Err, Result, Bor, MatchResult, Some, None, decimal, sym, ap, ◌∙◌, subst, ⊎_elim, arith}
 use Rattle.std.specs.Int.{IsInRange}
 use Rattle.std.specs.Result.{result_ok}
-use Rattle.std.specs.Str.{IsUtf8}
+use Rattle.std.specs.Str.{IsUtf8, IsAscii}
 use Rattle.std.specs.Str.Parse.{digits_value, ParsesUnsigned}
-use Rattle.std.proofs.lemmas.Fmt.{decimal_is_IsNumeral, decimal_nonempty, decimal_digit, length-decimal-le, first_decimal, decimal-digits_value}
+use Rattle.std.proofs.lemmas.Fmt.{decimal_is_IsNumeral, decimal_nonempty, decimal_digit, length-decimal-le, first_decimal, decimal-digits_value, IsAscii-decimal, parse-decimal}
 use Rattle.std.proofs.lemmas.Str.{IsUtf8-from_ascii}
-use Rattle.std.proofs.lemmas.Str.Ascii.{IsAscii-from_reads}
-use Rattle.std.proofs.lemmas.Str.Parse.{IsNumeralModel, numerals_by_value, tells_by_index, digit_at, digits_value_short, parse_digits, parse_plain}
+use Rattle.std.proofs.lemmas.Result.{MatchResult-at_ok, OkIff-at_ok}
+use Rattle.std.proofs.lemmas.Str.Parse.{IsNumeralModel, numerals_by_value, tells_by_index, digit_at, digits_value_short, parse_plain}
 use Rattle.std.proofs.lemmas.Bool.{cases_lt}
 use Rattle.records.specs.Numerals.{Writes, IsNoNumber, most_digits}
 
@@ -56,25 +56,32 @@ plus_none w e n h =
 pub zero_none : (w : List ℕ) → get_or w 0 0 ≡ 48 → 2 ≤ length w → IsNoNumber w
 zero_none w e long n h = let l = (writes_shape w n h).lean e in omega arith
 
--- nor one that is no text
-pub other_none : {E : Type 0} → (Q : E → Type 0) (w : List ℕ) (r : Result (Bor (List ℕ)) E) → MatchResult r (λ s. (s.now ≡ w) × IsUtf8 w) (λ e. (IsUtf8 w → ⊥) × Q e) → None ≡ result_ok r → IsNoNumber w
-other_none Q w (Ok t) h e = absurd (cc)
-other_none Q w (Err x) h e = λ n written.
-    h.0 (IsUtf8-from_ascii w (IsAscii-from_reads w (length w) (omega arith) (λ k l. let d = (writes_shape w n written).digits k l in omega arith)))
+-- nor one that is too long
+pub long_none : (w : List ℕ) → most_digits < length w → IsNoNumber w
+long_none w long n h = let f = (writes_shape w n h).few in omega arith
 
--- nor one that `parse` does not read
-pub unread_none : {E : Type 0} → (w : List ℕ) (r : Result ℕ E) → ParsesUnsigned 64 10 w r → None ≡ result_ok r → IsNoNumber w
-unread_none w (Ok n) h e = absurd (cc)
-unread_none w (Err x) h e = λ n written.
-    let s = writes_shape w n written in
-    let v = digits_value_short own w most_digits s.digits s.few in
-    parse_digits own 64 w (Err x) h s.digits (s.some, omega arith)
+no_text : {E : Type 0} (Q : E → Type 0) (w : List ℕ) (r : Result (Bor (List ℕ)) E) → MatchResult r (λ t. (t.now ≡ w) × IsUtf8 w) (λ e. (IsUtf8 w → ⊥) × Q e) → None ≡ result_ok r → IsUtf8 w → ⊥
+no_text Q w (Ok t) h e u = absurd (cc)
+no_text Q w (Err x) h e u = h.0 u
 
--- and any other word writes the number that `parse` reads
-pub read_writes : (E : Type 0) (w : List ℕ) (r : Result ℕ E) (n : ℕ) → ParsesUnsigned 64 10 w r → Some n ≡ result_ok r → get_or w 0 0 ≢ 43 → (get_or w 0 0 ≡ 48 → length w ≤ 1) → length w ≤ most_digits → Writes w n
-read_writes E w (Err e) n h same plus lean few = absurd (cc)
-read_writes E w (Ok m) n h same plus lean few =
-    let p = parse_plain own {E = E} 64 w (Ok m) h plus in
-    let some = p.0.1 in
-    let e : m ≡ n = cc in
-    shape_writes w n (record { some = some; few = few; lean = (λ e. let l = lean e in omega arith); digits = p.0.0 }) (sym e ∙ p.1)
+-- What `from_utf8` and then `parse` tell of a word:
+module _ {E : Type 0} (Q : E → Type 0) (w : List ℕ) (r : Result (Bor (List ℕ)) E) (told : MatchResult r (λ t. (t.now ≡ w) × IsUtf8 w) (λ e. (IsUtf8 w → ⊥) × Q e)) where
+  -- one that is no text writes no number
+  pub other_none : None ≡ result_ok r → IsNoNumber w
+  other_none e n h = no_text Q w r told e (IsUtf8-from_ascii w (subst IsAscii (sym h.1) (IsAscii-decimal n (omega (arith, h.0)))))
+
+  module _ {F : Type 0} (text : Bor (List ℕ)) (is : Some text ≡ result_ok r) (p : Result ℕ F) (parsed : ParsesUnsigned 64 10 text.now p) where
+    same : text.now ≡ w
+    same = let k : r ≡ Ok text = grind arith in (MatchResult-at_ok _ _ text k told).0
+
+    -- nor does one that `parse` does not read
+    pub unread_none : None ≡ result_ok p → IsNoNumber w
+    unread_none e n h = let k = parse-decimal 64 n text.now p (omega (arith, h.0)) (omega (arith, h.0)) (same ∙ h.1) parsed in absurd (cc)
+
+    -- any other writes the number that is read
+    pub read_writes : (n : ℕ) → Some n ≡ result_ok p → get_or w 0 0 ≢ 43 → (get_or w 0 0 ≡ 48 → length w ≤ 1) → length w ≤ most_digits → Writes w n
+    read_writes n e plus lean few =
+        let k : p ≡ Ok n = grind arith in
+        let d = OkIff-at_ok p _ _ n (parse_plain own {E = F} 64 w p (subst (λ t. ParsesUnsigned 64 10 t p) same parsed) plus) k in
+        let some = d.0.1 in
+        shape_writes w n (record { some = some; few = few; lean = (λ e. let l = lean e in omega arith); digits = d.0.0 }) d.1

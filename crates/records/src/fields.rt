@@ -32,6 +32,7 @@ impl<'a> Fields<'a> {
             };
             let text = rest.ok_or(RecordFault::FieldCount(place))?;
             let (part, after) = cut(text, b' ');
+            // By index: of what is written through `iter_mut` and `zip` the proof knows no figure.
             figures[i] = Word::field(part, place).figure(*range)?;
             rest = after;
         }

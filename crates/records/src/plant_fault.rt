@@ -21,6 +21,7 @@ pub enum PlantFault {
     Day(Fault),
 }
 
+// By hand, since the `From` of a derive has no contract.
 impl From<RecordFault> for PlantFault {
     ghost from_gives = { λ fault r. r ≡ Record fault };
 

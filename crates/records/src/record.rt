@@ -34,6 +34,7 @@ impl Record {
     fn from_fields(fields: Fields, kind: RecordKind) -> Result<Record, RecordFault>
         ensures { TextRead kind fields.entry.number fields.entry.text.now result }
     {
+        // An arm for each kind: their arrays have lengths, and so types, of their own.
         match kind {
             RecordKind::Calendar => fields.figures(&CALENDAR_RANGES).map(Record::Calendar),
             RecordKind::Delay => fields.figures(&DELAY_RANGES).map(Record::Delay),

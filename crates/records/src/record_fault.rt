@@ -21,6 +21,7 @@ pub enum RecordFault {
     LongLine(usize),
 }
 
+// By hand, since the `From` of a derive has no contract.
 impl From<WordFault> for RecordFault {
     ghost from_gives = { λ fault r. r ≡ Word fault };
 
