@@ -12,7 +12,7 @@ pub fn number(word: &[u8]) -> Option<u64>
     if word.len() > MOST_DIGITS {
         return None;
     }
-    let figure = str::from_utf8(word).ok()?.parse().ok()?;
+    let figure = str::from_utf8(word).ok()?.parse::<u64>().ok()?;
     match word {
         [b'+', ..] | [b'0', _, ..] => None,
         _ => Some(figure),
