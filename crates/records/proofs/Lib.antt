@@ -1,5 +1,4 @@
 pub mod Spelling
 pub mod Progress
-pub mod Marking
 pub mod Splitting
 pub mod Returning

@@ -1,6 +1,6 @@
 -- A record's line is read as that record.
-use Rattle.std.proofs.Common.{◌≡◌, ℕ, ◌+◌, ◌^◌, ◌<◌, ◌≤◌, List, [], ◌∷◌, ◌++◌, length, get_or, Ok, Err, decimal, Result, sym, refl, ap, ◌∙◌, subst, ⊎_elim, arith}
-use Rattle.std.proofs.lemmas.List.{length-append, get_or-append-add}
+use Rattle.std.proofs.Common.{◌≡◌, ℕ, ◌+◌, ◌^◌, ◌<◌, ◌≤◌, List, ◌∷◌, ◌++◌, length, get_or, Ok, Err, decimal, Result, sym, refl, ap, ◌∙◌, subst, ⊎_elim, arith}
+use Rattle.std.proofs.lemmas.List.{append_cancel_left, length-append, get_or-append-add}
 use Rattle.figures.specs.declared.ranges.Range.{Range}
 use Rattle.figures.specs.Ranges.{Within, missing}
 use Rattle.records.specs.declared.kind.RecordKind.{RecordKind}
@@ -13,7 +13,7 @@ use Rattle.records.specs.declared.record_fault.RecordFault.TheVariants.{Word, La
 use Rattle.records.specs.Numerals.{Writes, most_digits}
 use Rattle.records.specs.Fields.{Good, WrongWord, MissingField, ExtraField, NotWritten, OutOf, FaultyFields, figures_text}
 use Rattle.records.specs.Kinds.{mark_of, ranges_of, TakenApart}
-use Rattle.records.specs.Records.{kind_of, figures_of, record_text, InRange, TextRead, RecordRead, ReadsBack}
+use Rattle.records.specs.Records.{kind_of, figures_of, record_text, InRange, RecordRead, ReadsBack}
 use Rattle.records.proofs.Splitting.{next_word, no_space, same_number, text_same, leads, tail_of, tail-ended}
 
 -- a record from its kind and its figures
@@ -44,23 +44,6 @@ some_field kind.RootStage = omega arith
 some_field kind.Assembly = omega arith
 some_field kind.BucketStage = omega arith
 some_field kind.Day = omega arith
-
-cancel : (m a b : List ℕ) → m ++ a ≡ m ++ b → a ≡ b
-cancel [] a b e = e
-cancel (x ∷ m) a b e = cancel m a b (let h : m ++ a ≡ m ++ b = cc in h)
-
--- what the text after the mark tells, the line tells
-pub line_read : (due : RecordKind) (n : ℕ) (line text : List ℕ) (r : Result Record RecordFault) → TakenApart due line text → TextRead due n text r → RecordRead due n line r
-line_read due n line text (Ok r) apart (same, f) = (
-  same,
-  record { good = subst (λ k. Good (ranges_of k) (figures_of r)) (sym same) f.good; all = f.all ∙ ap (λ k. length (ranges_of k)) (sym same) },
-  apart ∙ (λ i. mark_of (sym same i) ++ 32 ∷ f.written i),
-)
-line_read due n line text (Err (Word f)) apart p = (text, apart, p)
-line_read due n line text (Err (LawBroken f)) apart p = p
-line_read due n line text (Err (NoMark m)) apart p = absurd p
-line_read due n line text (Err (FieldCount f)) apart p = (text, apart, p)
-line_read due n line text (Err (LongLine m)) apart p = p
 
 -- all figures of a record are good, so no word of them is wrong, none is missing, and none is too many
 module _ (ranges : List Range) (fs : List ℕ) (good : Good ranges fs) (all : length fs ≡ length ranges) (some : 1 ≤ length fs) where
@@ -100,7 +83,7 @@ module _ (ranges : List Range) (fs : List ℕ) (good : Good ranges fs) (all : le
 wrong_text : (due : RecordKind) (n : ℕ) (line text : List ℕ) (fault : RecordFault) (x : Record) → kind_of x ≡ due → InRange x → line ≡ record_text x →
     TakenApart due line text → FaultyFields (ranges_of due) n text fault → ⊥
 wrong_text due n line text fault x kind whole e apart f =
-    let texts = cancel (mark_of due) (32 ∷ text) (32 ∷ figures_text (figures_of x))
+    let texts = append_cancel_left (mark_of due) (32 ∷ text) (32 ∷ figures_text (figures_of x))
     (sym apart ∙ e ∙ ap (λ m. mark_of m ++ 32 ∷ figures_text (figures_of x)) kind) in
     let same : text ≡ figures_text (figures_of x) = cc texts in
     let a = some_field (kind_of x) in
@@ -112,7 +95,7 @@ wrong_text due n line text fault x kind whole e apart f =
 pub read_back : (due : RecordKind) (n : ℕ) (line : List ℕ) (r : Result Record RecordFault) → RecordRead due n line r → ReadsBack due line r
 read_back due n line (Ok r) (same, range, written) x kind whole e =
     let k = same ∙ sym kind in
-    let texts = cancel (mark_of (kind_of r)) (32 ∷ figures_text (figures_of r)) (32 ∷ figures_text (figures_of x))
+    let texts = append_cancel_left (mark_of (kind_of r)) (32 ∷ figures_text (figures_of r)) (32 ∷ figures_text (figures_of x))
     (sym written ∙ e ∙ ap (λ m. mark_of m ++ 32 ∷ figures_text (figures_of x)) (sym k)) in
     let a = some_field (kind_of r) in
     let b = some_field (kind_of x) in

@@ -1,5 +1,5 @@
 -- The fields of a record: figures one space apart, each within its range.
-use Rattle.std.specs.Prelude.{◌≡◌, ℕ, ◌+◌, ◌^◌, ◌<◌, ◌≤◌, ◌⊎◌, List, [], ◌∷◌, ◌++◌, map, length, Ok, Err, decimal, Result, slice_index, slice_index_or}
+use Rattle.std.specs.Prelude.{◌≡◌, ℕ, ◌+◌, ◌^◌, ◌<◌, ◌≤◌, ◌⊎◌, List, [], ◌∷◌, ◌++◌, map, length, decimal, slice_index, slice_index_or}
 use Rattle.figures.specs.declared.ranges.Range.{Range}
 use Rattle.figures.specs.Ranges.{Within, missing}
 use Rattle.printed.specs.Texts.{spaced}
@@ -83,8 +83,3 @@ FaultyFields ranges n text (LawBroken p) = ⊥
 FaultyFields ranges n text (NoMark m) = ⊥
 FaultyFields ranges n text (FieldCount p) = (MissingField ranges text p.field ⊎ ExtraField ranges text p.field) × (p.«record» ≡ n)
 FaultyFields ranges n text (LongLine m) = ⊥
-
--- the fields of a record as they are read, by the answer and the figures then
-abbrev pub FieldsRead : List Range → ℕ → List ℕ → Result (Unit {0}) RecordFault → List ℕ → Type 0
-FieldsRead ranges n text (Ok x) figures = Filled ranges text figures
-FieldsRead ranges n text (Err fault) figures = FaultyFields ranges n text fault

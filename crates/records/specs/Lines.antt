@@ -19,6 +19,7 @@ pub record FirstLine (rest line after : List ℕ) : Type 0 where
 abbrev pub Unended : List ℕ → Type 0
 Unended rest = (i : ℕ) → i ≤ most_bytes → i < length rest → slice_index rest i ≢ 10
 
+-- the first line as it is read, or what is wrong with it
 abbrev pub LineRead : ℕ → List ℕ → Result (Bor (List ℕ) × Bor (List ℕ)) RecordFault → Type 0
 LineRead n rest (Ok p) = FirstLine rest p.0.now p.1.now
 LineRead n rest (Err (Word f)) = ⊥

@@ -9,6 +9,7 @@ use Rattle.records.specs.declared.plant_fault.PlantFault.{PlantFault}
 use Rattle.records.specs.declared.plant_fault.PlantFault.TheVariants.{Record, Making, LongFile, Day}
 use Rattle.records.specs.RecordFaults.{record_number, record_place, whole_record}
 
+-- the number by which a fault is printed
 abbrev pub plant_number : PlantFault → ℕ
 plant_number (Record fault) = record_number fault
 plant_number (Making n refusal) = number refusal
@@ -24,6 +25,7 @@ refused_field AboveLimit = 0
 refused_field LowBase = 0
 refused_field (LawBroken p) = p
 
+-- where it was found
 abbrev pub plant_place : PlantFault → Place
 plant_place (Record fault) = record_place fault
 plant_place (Making n refusal) = record { «record» = n; field = refused_field refusal }

@@ -21,6 +21,7 @@ ReadPart part place range (Ok n) = Writes part n × Within range n
 ReadPart part place range (Err (NoNumber at)) = IsNoNumber part × (at ≡ place)
 ReadPart part place range (Err (OutOfRange at)) = ((n : ℕ) × Writes part n × (Within range n → ⊥)) × (at ≡ place)
 
+-- the figure that a word writes, where it is within its range
 abbrev pub FigureRead : Word → Range → Result ℕ WordFault → Type 0
 FigureRead (Mark part place) range r = r ≡ Err (NoNumber place)
 FigureRead (Number part place) range r = ReadPart part.now place range r

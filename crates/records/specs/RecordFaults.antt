@@ -5,6 +5,7 @@ use Rattle.records.specs.declared.record_fault.RecordFault.{RecordFault}
 use Rattle.records.specs.declared.record_fault.RecordFault.TheVariants.{Word, LawBroken, NoMark, FieldCount, LongLine}
 use Rattle.records.specs.WordFaults.{word_number, word_place}
 
+-- the number by which a fault is printed
 abbrev pub record_number : RecordFault → ℕ
 record_number (Word fault) = word_number fault
 record_number (LawBroken place) = 21
@@ -16,6 +17,7 @@ record_number (LongLine n) = 36
 abbrev pub whole_record : ℕ → Place
 whole_record n = record { «record» = n; field = 0 }
 
+-- where it was found
 abbrev pub record_place : RecordFault → Place
 record_place (Word fault) = word_place fault
 record_place (LawBroken place) = place

@@ -9,6 +9,7 @@ use Rattle.records.specs.declared.record_fault.RecordFault.TheVariants.{Word, La
 use Rattle.records.specs.Fields.{Good, Filled, FaultyFields, figures_text}
 use Rattle.records.specs.Kinds.{mark_of, ranges_of, TakenApart, LacksMark}
 
+-- the kind of a record
 abbrev pub kind_of : Record → RecordKind
 kind_of (Calendar fs) = kind.Calendar
 kind_of (Delay fs) = kind.Delay
@@ -18,6 +19,7 @@ kind_of (Assembly fs) = kind.Assembly
 kind_of (BucketStage fs) = kind.BucketStage
 kind_of (Day fs) = kind.Day
 
+-- its figures, in the order of its fields
 abbrev pub figures_of : Record → List ℕ
 figures_of (Calendar fs) = fs
 figures_of (Delay fs) = fs

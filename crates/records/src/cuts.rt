@@ -7,10 +7,8 @@ pub(crate) fn cut(bytes: &[u8], at: u8) -> (&[u8], Option<&[u8]>)
     ensures lacks { Lacks at result.0.now }
     ensures parts { MatchOption result.1 (bytes.now ≡ result.0.now) (λ rest. bytes.now ≡ result.0.now ++ at ∷ rest.now) }
 {
-    for (i, byte) in bytes.iter().enumerate() {
-        if *byte == at {
-            return (&bytes[..i], Some(&bytes[i + 1..]));
-        }
+    match bytes.iter().position(|byte| *byte == at) {
+        Some(i) => (&bytes[..i], Some(&bytes[i + 1..])),
+        None => (bytes, None),
     }
-    (bytes, None)
 }

@@ -30,13 +30,15 @@ pub enum RecordKind {
 }
 
 /// The ranges of a stage's figures and of those of its root envelope.
-const ROOT_STAGE_RANGES: [Range; 6] = [NUMBERS, TIMES, TIMES, STOCKS, DAILY, SPREADS];
+pub(crate) const ROOT_STAGE_RANGES: [Range; 6] = [NUMBERS, TIMES, TIMES, STOCKS, DAILY, SPREADS];
 
 /// The ranges of a stage's figures and of those of its bucket envelope.
-const BUCKET_STAGE_RANGES: [Range; 7] = [NUMBERS, TIMES, TIMES, STOCKS, DAILY, BURSTS, DAILY];
+pub(crate) const BUCKET_STAGE_RANGES: [Range; 7] = [
+    NUMBERS, TIMES, TIMES, STOCKS, DAILY, BURSTS, DAILY,
+];
 
 /// An order has no range: every number is taken to the pile.
-const DAY_RANGES: [Range; 1] = [Range {
+pub(crate) const DAY_RANGES: [Range; 1] = [Range {
     low: 0,
     high: 9_999_999_999_999,
 }];
@@ -61,35 +63,15 @@ impl RecordKind {
     pub fn text_of(self, line: &[u8]) -> Option<&[u8]>
         ensures { MatchOption result (LacksMark self line.now) (λ text. TakenApart self line.now text.now) }
     {
-        match self {
-            RecordKind::Calendar => match line {
-                [b'V', b'C', b' ', text @ ..] => Some(text),
-                _ => None,
-            },
-            RecordKind::Delay => match line {
-                [b'D', b'L', b' ', text @ ..] => Some(text),
-                _ => None,
-            },
-            RecordKind::Pipeline => match line {
-                [b'V', b'P', b' ', text @ ..] => Some(text),
-                _ => None,
-            },
-            RecordKind::RootStage => match line {
-                [b'S', b'R', b' ', text @ ..] => Some(text),
-                _ => None,
-            },
-            RecordKind::Assembly => match line {
-                [b'A', b'S', b' ', text @ ..] => Some(text),
-                _ => None,
-            },
-            RecordKind::BucketStage => match line {
-                [b'S', b'B', b' ', text @ ..] => Some(text),
-                _ => None,
-            },
-            RecordKind::Day => match line {
-                [b'D', b'Y', b' ', text @ ..] => Some(text),
-                _ => None,
-            },
+        match (self, line) {
+            (RecordKind::Calendar, [b'V', b'C', b' ', text @ ..])
+            | (RecordKind::Delay, [b'D', b'L', b' ', text @ ..])
+            | (RecordKind::Pipeline, [b'V', b'P', b' ', text @ ..])
+            | (RecordKind::RootStage, [b'S', b'R', b' ', text @ ..])
+            | (RecordKind::Assembly, [b'A', b'S', b' ', text @ ..])
+            | (RecordKind::BucketStage, [b'S', b'B', b' ', text @ ..])
+            | (RecordKind::Day, [b'D', b'Y', b' ', text @ ..]) => Some(text),
+            _ => None,
         }
     }
 }

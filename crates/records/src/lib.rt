@@ -2,7 +2,7 @@
 #![tactic(auto)]
 
 mod cuts;
-mod filling;
+mod fields;
 mod kind;
 mod lines;
 mod numerals;

@@ -12,11 +12,8 @@ pub fn next_line(rest: &[u8], number: usize) -> Result<(&[u8], &[u8]), RecordFau
     ensures { LineRead number rest.now result }
 {
     let (line, after) = cut(rest, b'\n');
-    let Some(after) = after else {
-        return Err(RecordFault::LongLine(number));
-    };
-    if line.len() > MOST_BYTES {
-        return Err(RecordFault::LongLine(number));
+    match after {
+        Some(after) if line.len() <= MOST_BYTES => Ok((line, after)),
+        _ => Err(RecordFault::LongLine(number)),
     }
-    Ok((line, after))
 }

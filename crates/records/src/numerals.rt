@@ -9,18 +9,12 @@ const MOST_DIGITS: usize = 13;
 pub fn number(word: &[u8]) -> Option<u64>
     ensures { MatchOption result (IsNoNumber word.now) (Writes word.now) }
 {
-    if word.len() == 0 || word.len() > MOST_DIGITS {
+    if word.len() > MOST_DIGITS {
         return None;
     }
-    if word[0] == b'0' && word.len() > 1 {
-        return None;
+    let figure = str::from_utf8(word).ok()?.parse::<u64>().ok()?;
+    match word {
+        [b'+', ..] | [b'0', _, ..] => None,
+        _ => Some(figure),
     }
-    let mut n = 0;
-    for digit in word {
-        if !digit.is_ascii_digit() {
-            return None;
-        }
-        n = 10 * n + (*digit - b'0') as u64;
-    }
-    Some(n)
 }

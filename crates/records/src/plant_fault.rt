@@ -21,6 +21,7 @@ pub enum PlantFault {
     Day(Fault),
 }
 
+// By hand, since the `From` of a derive has no contract.
 impl From<RecordFault> for PlantFault {
     ghost from_gives = { λ fault r. r ≡ Record fault };
 
@@ -56,17 +57,11 @@ impl PlantFault {
     {
         match self {
             PlantFault::Record(fault) => fault.place(),
-            PlantFault::Making(record, Refusal::OutOfRange(field)) => Place { record, field },
-            PlantFault::Making(record, Refusal::LawBroken(field)) => Place { record, field },
-            PlantFault::Making(record, _) => Place { record, field: 0 },
-            PlantFault::LongFile => Place {
-                record: 0,
-                field: 0,
-            },
-            PlantFault::Day(_) => Place {
-                record: 0,
-                field: 0,
-            },
+            PlantFault::Making(record, Refusal::OutOfRange(field) | Refusal::LawBroken(field)) => {
+                Place { record, field }
+            }
+            PlantFault::Making(record, _) => Place::of_record(record),
+            PlantFault::LongFile | PlantFault::Day(_) => Place::default(),
         }
     }
 }

@@ -29,7 +29,7 @@ pub fn next_record(
 ) -> Result<Option<(Record, &[u8])>, RecordFault>
     ensures { Step due number rest.now result }
 {
-    if rest.len() == 0 {
+    if rest.is_empty() {
         return Ok(None);
     }
     let (line, after) = next_line(rest, number)?;

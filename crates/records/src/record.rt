@@ -1,12 +1,12 @@
 // A record, and how it is read from its line.
-ghost use Rattle.std.specs.Prelude.{◌≡◌, length, MatchResult};
-ghost use Rattle.records.specs.Fields.{Filled, FaultyFields};
 ghost use Rattle.records.specs.Records.{ReadsBack, RecordRead, TextRead};
 
-use crate::filling::fill;
-use crate::kind::RecordKind;
+use crate::fields::Fields;
+use crate::kind::{BUCKET_STAGE_RANGES, DAY_RANGES, ROOT_STAGE_RANGES, RecordKind};
 use crate::record_fault::RecordFault;
-use figures::Range;
+use assemblies::ASSEMBLY_RANGES;
+use delays::DELAY_RANGES;
+use vendors::{CALENDAR_RANGES, PIPELINE_RANGES};
 
 /// The figures of a record, in the order of its fields.
 #[derive(Clone, Copy)]
@@ -20,45 +20,31 @@ pub enum Record {
     Day([u64; 1]),
 }
 
-/// The figures that the text after a mark writes, one for each range.
-fn figures_of<const N: usize>(
-    text: &[u8],
-    number: usize,
-    ranges: &[Range],
-) -> Result<[u64; N], RecordFault>
-    requires { length ranges.now ≡ N }
-    ensures { MatchResult result (Filled ranges.now text.now) (FaultyFields ranges.now number text.now) }
-{
-    let mut figures = [0; N];
-    fill(text, number, ranges, &mut figures)?;
-    Ok(figures)
-}
-
-/// The record of this kind that the text after its mark writes.
-fn text_record(text: &[u8], number: usize, kind: RecordKind) -> Result<Record, RecordFault>
-    ensures { TextRead kind number text.now result }
-{
-    let ranges = kind.ranges();
-    match kind {
-        RecordKind::Calendar => Ok(Record::Calendar(figures_of(text, number, ranges)?)),
-        RecordKind::Delay => Ok(Record::Delay(figures_of(text, number, ranges)?)),
-        RecordKind::Pipeline => Ok(Record::Pipeline(figures_of(text, number, ranges)?)),
-        RecordKind::RootStage => Ok(Record::RootStage(figures_of(text, number, ranges)?)),
-        RecordKind::Assembly => Ok(Record::Assembly(figures_of(text, number, ranges)?)),
-        RecordKind::BucketStage => Ok(Record::BucketStage(figures_of(text, number, ranges)?)),
-        RecordKind::Day => Ok(Record::Day(figures_of(text, number, ranges)?)),
-    }
-}
-
 impl Record {
     /// The record with this number, which is due to be of this kind, from its line.
     pub fn read(line: &[u8], number: usize, due: RecordKind) -> Result<Record, RecordFault>
         ensures read { RecordRead due number line.now result }
         ensures back { ReadsBack due line.now result }
     {
-        let Some(text) = due.text_of(line) else {
-            return Err(RecordFault::NoMark(number));
-        };
-        text_record(text, number, due)
+        let text = due.text_of(line).ok_or(RecordFault::NoMark(number))?;
+        Record::from_fields(Fields { text, number }, due)
+    }
+
+    /// The record of this kind that the fields write.
+    fn from_fields(fields: Fields, kind: RecordKind) -> Result<Record, RecordFault>
+        ensures { TextRead kind fields.entry.number fields.entry.text.now result }
+    {
+        // An arm for each kind: their arrays have lengths, and so types, of their own.
+        match kind {
+            RecordKind::Calendar => fields.figures(&CALENDAR_RANGES).map(Record::Calendar),
+            RecordKind::Delay => fields.figures(&DELAY_RANGES).map(Record::Delay),
+            RecordKind::Pipeline => fields.figures(&PIPELINE_RANGES).map(Record::Pipeline),
+            RecordKind::RootStage => fields.figures(&ROOT_STAGE_RANGES).map(Record::RootStage),
+            RecordKind::Assembly => fields.figures(&ASSEMBLY_RANGES).map(Record::Assembly),
+            RecordKind::BucketStage => fields
+                .figures(&BUCKET_STAGE_RANGES)
+                .map(Record::BucketStage),
+            RecordKind::Day => fields.figures(&DAY_RANGES).map(Record::Day),
+        }
     }
 }

@@ -21,6 +21,7 @@ pub enum RecordFault {
     LongLine(usize),
 }
 
+// By hand, since the `From` of a derive has no contract.
 impl From<WordFault> for RecordFault {
     ghost from_gives = { λ fault r. r ≡ Word fault };
 
@@ -49,10 +50,8 @@ impl RecordFault {
     {
         match self {
             RecordFault::Word(fault) => fault.place(),
-            RecordFault::LawBroken(place) => place,
-            RecordFault::NoMark(record) => Place { record, field: 0 },
-            RecordFault::FieldCount(place) => place,
-            RecordFault::LongLine(record) => Place { record, field: 0 },
+            RecordFault::LawBroken(place) | RecordFault::FieldCount(place) => place,
+            RecordFault::NoMark(record) | RecordFault::LongLine(record) => Place::of_record(record),
         }
     }
 }

@@ -8,7 +8,7 @@ use figures::Range;
 
 /// A part of the line and its place.
 pub enum Word<'a> {
-    /// The mark of a record.
+    /// The mark of a record. `RecordKind::text_of` takes marks apart by their bytes, so no word of this kind is made here.
     Mark(&'a [u8], Place),
     /// A number.
     Number(&'a [u8], Place),
@@ -32,13 +32,15 @@ impl<'a> Word<'a> {
         ensures { FigureRead self.entry range result }
     {
         match self {
-            Word::Mark(_, place) => Err(WordFault::NoNumber(place)),
-            Word::Junk(_, place) => Err(WordFault::NoNumber(place)),
-            Word::Number(part, place) => match number(part) {
-                None => Err(WordFault::NoNumber(place)),
-                Some(figure) if range.holds(figure) => Ok(figure),
-                Some(_) => Err(WordFault::OutOfRange(place)),
-            },
+            Word::Number(part, place) => {
+                let figure = number(part).ok_or(WordFault::NoNumber(place))?;
+                if range.holds(figure) {
+                    Ok(figure)
+                } else {
+                    Err(WordFault::OutOfRange(place))
+                }
+            }
+            Word::Mark(_, place) | Word::Junk(_, place) => Err(WordFault::NoNumber(place)),
         }
     }
 }

@@ -29,8 +29,7 @@ impl WordFault {
         ensures { result ≡ word_place self }
     {
         match self {
-            WordFault::OutOfRange(place) => place,
-            WordFault::NoNumber(place) => place,
+            WordFault::OutOfRange(place) | WordFault::NoNumber(place) => place,
         }
     }
 }
