@@ -5,6 +5,7 @@ use Rattle.supplier.specs.Limits.{told_limit}
 use Rattle.supplier.specs.Meaning.{Meaning, Layout}
 use Rattle.supplier.specs.Meaning.{Day as Does}
 use Rattle.supplier.specs.Shelves.{Placed, figures_of}
+use Rattle.supplier.specs.declared.supplier.Supplier.{Ghosts}
 use Rattle.pile.specs.declared.calls.Event.{Event}
 use Rattle.pile.specs.declared.calls.Event.TheVariants.{Trial, Day, Quote, Limit, Days, Lines, Line}
 use Rattle.pile.specs.Runs.{Terms, State}
@@ -14,6 +15,13 @@ state m placed = record { meaning = m; shelves = placed }
 
 abbrev pub terms : Meaning → Layout → List Placed → Terms
 terms m layout placed = record { quote = m.service.quote; limit = m.service.limit; layout = layout; shelves = figures_of placed }
+
+-- what a supplier is now, and what never changes of it
+abbrev pub state_of : {S : Type 0} → Ghosts S → S → State
+state_of supplier s = state (supplier.meaning s) (supplier.shelves s)
+
+abbrev pub terms_of : {S : Type 0} → Ghosts S → S → Terms
+terms_of supplier s = terms (supplier.meaning s) (supplier.layout s) (supplier.shelves s)
 
 -- what a call answers, and what it leaves
 abbrev pub Answered : Layout → State → Event → State → Type 0

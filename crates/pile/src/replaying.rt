@@ -2,7 +2,7 @@
 ghost use Rattle.std.specs.Prelude.{◌≡◌, ℕ, List, map, IfOk, OnErr};
 ghost use Rattle.supplier.specs.Shelves.{figures_of};
 ghost use Rattle.pile.specs.Events.{asked};
-ghost use Rattle.pile.specs.Steps.{Answered, state, terms};
+ghost use Rattle.pile.specs.Steps.{Answered, state_of, terms_of};
 ghost use Rattle.pile.specs.Runs.{Stands, Run, Kept};
 
 use crate::calls::{Call, Event};
@@ -12,12 +12,9 @@ use supplier::Supplier;
 /// Makes one call, and tells it with its answer.
 fn answer<S: Supplier>(supplier: &mut S, call: Call) -> Event
     ensures call { asked result ≡ call }
-    ensures stays { S.Supplier.valid supplier.old → S.Supplier.valid supplier.new }
-    ensures answered { S.Supplier.valid supplier.old → Answered (S.Supplier.layout supplier.old)
-        (state (S.Supplier.meaning supplier.old) (S.Supplier.shelves supplier.old)) result
-        (state (S.Supplier.meaning supplier.new) (S.Supplier.shelves supplier.new)) }
-    ensures lays { S.Supplier.valid supplier.old → S.Supplier.layout supplier.new ≡ S.Supplier.layout supplier.old }
-    ensures stocks { S.Supplier.valid supplier.old → figures_of (S.Supplier.shelves supplier.new) ≡ figures_of (S.Supplier.shelves supplier.old) }
+    ensures answered { Answered (S.layout supplier.old) (state_of S.Supplier supplier.old) result (state_of S.Supplier supplier.new) }
+    ensures lays { S.layout supplier.new ≡ S.layout supplier.old }
+    ensures stocks { figures_of (S.shelves supplier.new) ≡ figures_of (S.shelves supplier.old) }
 {
     match call {
         Call::Trial(q) => Event::Trial(q, supplier.trial(q)),
@@ -38,18 +35,10 @@ pub fn replay<S: Supplier>(
 ) -> Result<Vec<Event>, AllocError>
     ensures each { IfOk result (λ v. map asked v.items ≡ calls.now) }
     ensures unmade { OnErr result (supplier.new ≡ supplier.old) }
-    ensures stays { S.Supplier.valid supplier.old → S.Supplier.valid supplier.new }
-    ensures goes_on { S.Supplier.valid supplier.old → (orders : List ℕ)
-        → Stands (terms (S.Supplier.meaning supplier.old) (S.Supplier.layout supplier.old) (S.Supplier.shelves supplier.old)) orders
-        (state (S.Supplier.meaning supplier.old) (S.Supplier.shelves supplier.old))
-        → IfOk result (λ v. Run (terms (S.Supplier.meaning supplier.old) (S.Supplier.layout supplier.old) (S.Supplier.shelves supplier.old)) orders
-        (state (S.Supplier.meaning supplier.old) (S.Supplier.shelves supplier.old)) calls.now v.items
-        (state (S.Supplier.meaning supplier.new) (S.Supplier.shelves supplier.new))) }
-    ensures keeps { S.Supplier.valid supplier.old → (S.Supplier.meaning supplier.old).service.days ≡ 0
-        → IfOk result (λ v. Kept (terms (S.Supplier.meaning supplier.old) (S.Supplier.layout supplier.old) (S.Supplier.shelves supplier.old))
-        (S.Supplier.envelope supplier.old)
-        (state (S.Supplier.meaning supplier.old) (S.Supplier.shelves supplier.old)) calls.now v.items
-        (state (S.Supplier.meaning supplier.new) (S.Supplier.shelves supplier.new))) }
+    ensures goes_on { (orders : List ℕ) → Stands (terms_of S.Supplier supplier.old) orders (state_of S.Supplier supplier.old)
+        → IfOk result (λ v. Run (terms_of S.Supplier supplier.old) orders (state_of S.Supplier supplier.old) calls.now v.items (state_of S.Supplier supplier.new)) }
+    ensures keeps { (S.meaning supplier.old).service.days ≡ 0
+        → IfOk result (λ v. Kept (terms_of S.Supplier supplier.old) (S.envelope supplier.old) (state_of S.Supplier supplier.old) calls.now v.items (state_of S.Supplier supplier.new)) }
 {
     let mut events = Vec::with_capacity(heap, calls.len())?;
     for call in calls {

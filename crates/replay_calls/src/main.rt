@@ -7,9 +7,9 @@ mod printing;
 use assemblies::{Assembling, Assembly};
 use delays::{Delay, Delaying};
 use envelope::{Bucket, Root};
-use parsing::call_of;
+use parsing::Asked;
 use pile::replay;
-use printing::print_event;
+use printing::Told;
 use stages::{Stage, Staging};
 use supplier::Supplier;
 use vendors::{Calendar, Pipeline};
@@ -29,12 +29,13 @@ fn pile() -> Pile {
 fn run(rt: &HostRuntime) -> anyhow::Result<()> {
     let mut calls = Vec::new(rt.alloc());
     for line in rt.lines(rt.alloc()) {
-        calls.push(call_of(line?.as_str())?)?;
+        let Asked(call) = line?.as_str().parse()?;
+        calls.push(call)?;
     }
     let mut pile = pile();
     let events = replay(rt.alloc(), &mut pile, calls.as_slice())?;
     for event in events.iter() {
-        print_event(rt, *event)?;
+        println!(rt; "{}", Told(*event))?;
     }
     Ok(())
 }

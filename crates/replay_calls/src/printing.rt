@@ -1,38 +1,42 @@
 // The printed form of calls and their answers.
 use pile::Event;
 use printed::RefusedDay;
-use std::io;
-use supplier::{Fault, Line};
+use std::fmt;
+use supplier::Line;
 
-/// A call with its answer, on a line.
-pub(crate) fn print_event(rt: &HostRuntime, event: Event) -> io::Result<()> {
-    match event {
-        Event::Trial(q, None) => println!(rt; "trial {q}: free"),
-        Event::Trial(q, Some(fault)) => print_refused(rt, "trial", q, fault),
-        Event::Day(q, Ok(delivery)) => println!(rt; "day {q}: {delivery}"),
-        Event::Day(q, Err(fault)) => print_refused(rt, "day", q, fault),
-        Event::Quote(quote) => println!(rt; "quote: {quote}"),
-        Event::Limit(k, None) => println!(rt; "limit {k}: none"),
-        Event::Limit(k, Some(limit)) => println!(rt; "limit {k}: {limit}"),
-        Event::Days(days) => println!(rt; "days: {days}"),
-        Event::Lines(lines) => println!(rt; "lines: {lines}"),
-        Event::Line(i, None) => println!(rt; "line {i}: none"),
-        Event::Line(i, Some(line)) => print_line(rt, i, line),
+/// A call with its answer, as it is printed.
+pub(crate) struct Told(pub Event);
+
+impl fmt::Display for Told {
+    fn fmt<W: fmt::Write>(&self, f: &mut fmt::Formatter<W>) -> fmt::Result {
+        match self.0 {
+            Event::Trial(q, None) => write!(f, "trial {q}: free"),
+            Event::Trial(q, Some(fault)) => write!(f, "trial {q}: {}", RefusedDay(fault)),
+            Event::Day(q, Ok(delivery)) => write!(f, "day {q}: {delivery}"),
+            Event::Day(q, Err(fault)) => write!(f, "day {q}: {}", RefusedDay(fault)),
+            Event::Quote(quote) => write!(f, "quote: {quote}"),
+            Event::Limit(k, None) => write!(f, "limit {k}: none"),
+            Event::Limit(k, Some(limit)) => write!(f, "limit {k}: {limit}"),
+            Event::Days(days) => write!(f, "days: {days}"),
+            Event::Lines(lines) => write!(f, "lines: {lines}"),
+            Event::Line(i, None) => write!(f, "line {i}: none"),
+            Event::Line(i, Some(line)) => write!(f, "line {i}: {}", Figures(line)),
+        }
     }
 }
 
-/// A call that was refused, with its fault.
-fn print_refused(rt: &HostRuntime, name: &str, q: u64, fault: Fault) -> io::Result<()> {
-    let fault = RefusedDay(fault);
-    println!(rt; "{name} {q}: {fault}")
-}
+/// A line of the sheet, as it is printed: `number kind order delivery held`.
+struct Figures(Line);
 
-/// A line of the sheet: `number kind order delivery held`.
-fn print_line(rt: &HostRuntime, i: usize, line: Line) -> io::Result<()> {
-    let number = line.number;
-    let kind = line.kind.letter();
-    let order = line.order;
-    let delivery = line.delivery;
-    let held = line.held;
-    println!(rt; "line {i}: {number} {kind} {order} {delivery} {held}")
+impl fmt::Display for Figures {
+    fn fmt<W: fmt::Write>(&self, f: &mut fmt::Formatter<W>) -> fmt::Result {
+        let Line {
+            number,
+            kind,
+            order,
+            delivery,
+            held,
+        } = self.0;
+        write!(f, "{number} {kind} {order} {delivery} {held}")
+    }
 }

@@ -19,8 +19,8 @@ impl<S: Supplier> Account<S> {
     pub fn open(supplier: S) -> Self
         ensures same { result.supplier ≡ supplier }
         ensures empty { (result.ordered ≡ 0) × (result.delivered ≡ 0) }
-        ensures balanced { S.Supplier.valid supplier → (S.Supplier.meaning supplier).service.days ≡ 0
-            → Balanced (S.Supplier.meaning result.supplier).service result.ordered result.delivered }
+        ensures balanced { (S.meaning supplier).service.days ≡ 0
+            → Balanced (S.meaning result.supplier).service result.ordered result.delivered }
     {
         Account {
             supplier,
@@ -31,14 +31,11 @@ impl<S: Supplier> Account<S> {
 
     /// Takes a day with the order q, and counts the order and the delivery.
     pub fn day(&mut self, q: u64) -> Result<u64, Fault>
-        ensures stays { S.Supplier.valid self.old.supplier → S.Supplier.valid self.new.supplier }
-        ensures answers { S.Supplier.valid self.old.supplier
-            → Day (S.Supplier.layout self.old.supplier) (S.Supplier.meaning self.old.supplier) q result (S.Supplier.meaning self.new.supplier) }
-        ensures lays { S.Supplier.valid self.old.supplier → S.Supplier.layout self.new.supplier ≡ S.Supplier.layout self.old.supplier }
+        ensures answers { Day (S.layout self.old.supplier) (S.meaning self.old.supplier) q result (S.meaning self.new.supplier) }
+        ensures lays { S.layout self.new.supplier ≡ S.layout self.old.supplier }
         ensures counted { Counted self.old.ordered self.old.delivered q result self.new.ordered self.new.delivered }
-        ensures balanced { S.Supplier.valid self.old.supplier
-            → Balanced (S.Supplier.meaning self.old.supplier).service self.old.ordered self.old.delivered
-            → Balanced (S.Supplier.meaning self.new.supplier).service self.new.ordered self.new.delivered }
+        ensures balanced { Balanced (S.meaning self.old.supplier).service self.old.ordered self.old.delivered
+            → Balanced (S.meaning self.new.supplier).service self.new.ordered self.new.delivered }
     {
         let delivery = self.supplier.day(q)?;
         self.ordered = self.ordered.saturating_add(q);
@@ -56,8 +53,8 @@ impl<S: Supplier> Account<S> {
     /// The pieces still to come: where the account balances, those of the last days that the quote reaches back to.
     pub fn to_come(&self) -> u64
         ensures less { result ≡ self.now.ordered - self.now.delivered }
-        ensures held { Balanced (S.Supplier.meaning self.now.supplier).service self.now.ordered self.now.delivered
-            → result ≡ window (S.Supplier.meaning self.now.supplier).service.quote (S.Supplier.meaning self.now.supplier).service.book }
+        ensures held { Balanced (S.meaning self.now.supplier).service self.now.ordered self.now.delivered
+            → result ≡ window (S.meaning self.now.supplier).service.quote (S.meaning self.now.supplier).service.book }
     {
         self.ordered.saturating_sub(self.delivered)
     }

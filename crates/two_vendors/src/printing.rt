@@ -8,11 +8,9 @@ use supplier::{Fault, Supplier};
 /// Each line of the sheet.
 pub(crate) fn print_sheet<S: Supplier>(rt: &HostRuntime, supplier: &S) -> io::Result<()> {
     let day = supplier.days();
-    for i in 0..supplier.lines() {
-        if let Some(line) = supplier.line(i) {
-            let text = DayLine { day, line };
-            println!(rt; "{text}")?;
-        }
+    for line in (0..supplier.lines()).filter_map(|i| supplier.line(i)) {
+        let text = DayLine { day, line };
+        println!(rt; "{text}")?;
     }
     Ok(())
 }
@@ -28,9 +26,7 @@ pub(crate) fn print_account<S: Supplier>(
     rt: &HostRuntime,
     account: &Account<S>,
 ) -> anyhow::Result<()> {
-    let Some(line) = account.supplier.line(0) else {
-        return Err(anyhow!("no line"));
-    };
+    let line = account.supplier.line(0).ok_or_else(|| anyhow!("no line"))?;
     let number = line.number;
     let (ordered, delivered) = account.totals();
     let to_come = account.to_come();

@@ -3,7 +3,7 @@ use Rattle.std.proofs.lemmas.List.{take_all, take_more}
 use Rattle.pile.specs.declared.calls.Call.TheVariants.{Trial}
 use Rattle.pile.specs.declared.calls.Event.{Event}
 use Rattle.pile.specs.Events.{asked}
-use Rattle.pile.specs.Steps.{state, terms}
+use Rattle.pile.specs.Steps.{state_of, terms_of}
 use Rattle.pile.proofs.Showing.{shown, stands_new}
 use Rattle.pile.proofs.Running.{Running, asked-push, running_none, running_more, running_all}
 use Rattle.pile.proofs.Summits.{summits}
@@ -13,31 +13,31 @@ use Rattle.pile.proofs.replaying.replay.Goals as goal
 pub returns-in_err-push : goal.returns-in_err-push
 returns-in_err-push g c =
     let full = c.in_err-push.ensures.full in
-    let i = c.loop-call.invariant.0 in
-    let r = c.loop-call.invariant.1 in
+    let i = c.loop-call.invariant.told in
+    let r = c.loop-call.invariant.room in
     absurd (omega arith)
 
 pub loop-call-init : goal.loop-call-init
 loop-call-init g c =
     let e = c.in_ok-events.ensures in
-    let m = g.S.Supplier.meaning c.args.supplier.now in
-    let placed = g.S.Supplier.shelves c.args.supplier.now in
-    let t = terms m (g.S.Supplier.layout c.args.supplier.now) placed in (
-      e.len,
-      e.capacity,
-      λ v. v,
-      λ v. refl,
-      λ v orders s. subst (λ (es : List Event). Running t orders (state m placed) es (state m placed)) (sym e.items) (running_none t orders (state m placed) s),
-      ap (map asked) e.items,
-    )
+    let a = c.args.supplier.now in
+    let t = terms_of g.S.Supplier a in
+    let s = state_of g.S.Supplier a in
+    record {
+      told = e.len;
+      room = e.capacity;
+      lays = refl;
+      running = λ orders stands. subst (λ (es : List Event). Running t orders s es s) (sym e.items) (running_none t orders s stands);
+      asked = ap (map asked) e.items;
+    }
 
 pub loop-call-preserved : goal.loop-call-preserved
 loop-call-preserved g c =
+    let supplier = g.S.Supplier in
+    let first = c.args.supplier.now in
     let a = c.loop-call.supplier in
     let b = c.answer.new.supplier in
-    let m = g.S.Supplier.meaning c.args.supplier.now in
-    let placed = g.S.Supplier.shelves c.args.supplier.now in
-    let t = terms m (g.S.Supplier.layout c.args.supplier.now) placed in
+    let t = terms_of supplier first in
     let inv = c.loop-call.invariant in
     let calls = c.args.calls.now in
     let i = c.loop-call.call-index in
@@ -45,49 +45,46 @@ loop-call-preserved g c =
     let did = c.answer.ensures in
     let pushed = c.in_ok-push.ensures in
     let es = vec_items c.loop-call.events in
-    let e = c.answer.result in (
-      let x = pushed.len in let y = inv.0 in omega arith,
-      let x = pushed.capacity in let y = inv.1 in omega arith,
-      λ v. did.stays (inv.2 v),
-      λ v. did.lays (inv.2 v) ∙ inv.3 v,
-      λ v orders s.
-          let o = inv.2 v in
-          let o' = did.stays o in
-          let r = inv.4 v orders s in
-          let p = shown t _ (state (g.S.Supplier.meaning a) (g.S.Supplier.shelves a)) (state (g.S.Supplier.meaning b) (g.S.Supplier.shelves b))
-          r.stands (g.met.S.Supplier.sound a o) (g.met.S.Supplier.sound b o') (g.met.S.Supplier.shelved b o') (did.stocks o)
-          (g.S.Supplier.layout a) e (inv.3 v) (did.answered o) in
-          let x = running_more t orders (state m placed) _ (state (g.S.Supplier.meaning b) (g.S.Supplier.shelves b)) es e r p in
-          subst (λ (xs : List Event). Running t orders (state m placed) xs (state (g.S.Supplier.meaning b) (g.S.Supplier.shelves b))) (sym pushed.items) x,
-      ap (map asked) pushed.items ∙ asked-push (take i calls) _ es e inv.5 did.call ∙ sym (take_more calls i (Trial 0) l),
-    )
+    let e = c.answer.result in
+    record {
+      told = let x = pushed.len in let y = inv.told in omega arith;
+      room = let x = pushed.capacity in let y = inv.room in omega arith;
+      lays = did.lays ∙ inv.lays;
+      running = λ orders stands.
+          let r = inv.running orders stands in
+          let p = shown t _ (state_of supplier a) (state_of supplier b)
+          r.stands (g.met.S.Supplier.sound a) (g.met.S.Supplier.sound b) (g.met.S.Supplier.shelved b) did.stocks
+          (supplier.layout a) e inv.lays did.answered in
+          let x = running_more t orders (state_of supplier first) _ (state_of supplier b) es e r p in
+          subst (λ (xs : List Event). Running t orders (state_of supplier first) xs (state_of supplier b)) (sym pushed.items) x;
+      asked = ap (map asked) pushed.items ∙ asked-push (take i calls) _ es e inv.asked did.call ∙ sym (take_more calls i (Trial 0) l);
+    }
 
 pub returns : goal.returns
 returns g c =
+    let supplier = g.S.Supplier in
     let a = c.args.supplier.now in
-    let m = g.S.Supplier.meaning a in
-    let placed = g.S.Supplier.shelves a in
-    let layout = g.S.Supplier.layout a in
-    let t = terms m layout placed in
-    let b = c.loop-call.supplier in
-    let k = state (g.S.Supplier.meaning b) (g.S.Supplier.shelves b) in
+    let m = supplier.meaning a in
+    let placed = supplier.shelves a in
+    let t = terms_of supplier a in
+    let s = state_of supplier a in
+    let k = state_of supplier c.loop-call.supplier in
     let inv = c.loop-call.invariant in
     let calls = c.args.calls.now in
     let events = vec_items c.loop-call.events in
-    let each : map asked events ≡ calls = inv.5 ∙ take_all c.loop-call.call-index calls (omega arith) in
+    let each : map asked events ≡ calls = inv.asked ∙ take_all c.loop-call.call-index calls (omega arith) in
     record {
       each = each;
       unmade = tt;
-      stays = inv.2;
-      goes_on = λ v orders s. running_all t orders (state m placed) calls events k each (inv.4 v orders s);
-      keeps = λ v n.
-          let sound = g.met.S.Supplier.sound a v in
-          let shelved = g.met.S.Supplier.shelved a v in
-          let s = stands_new m layout placed sound shelved n in
-          let run = running_all t [] (state m placed) calls events k each (inv.4 v [] s) in
+      goes_on = λ orders stands. running_all t orders s calls events k each (inv.running orders stands);
+      keeps = λ n.
+          let sound = g.met.S.Supplier.sound a in
+          let shelved = g.met.S.Supplier.shelved a in
+          let stands = stands_new m (supplier.layout a) placed sound shelved n in
+          let run = running_all t [] s calls events k each (inv.running [] stands) in
           record {
-            starts = s;
+            starts = stands;
             run = run;
-            top = summits m layout placed (g.S.Supplier.envelope a) calls events k sound shelved (g.met.S.Supplier.enveloped a v) run;
+            top = summits m (supplier.layout a) placed (supplier.envelope a) calls events k sound shelved (g.met.S.Supplier.enveloped a) run;
           };
     }
