@@ -77,14 +77,13 @@ scaled c places p = record {
 }
 
 -- what ties an assembly to one side
-pub record Side (ok : Type 0) (below : Meaning) (c : ℕ) (orders : List ℕ) (days : ℕ) : Type 0 where
-  pub side_ok : ok
+pub record Side (below : Meaning) (c : ℕ) (orders : List ℕ) (days : ℕ) : Type 0 where
   pub same : below.service.book ≡ times c orders
   pub together : below.service.days ≡ days
 
 -- what ties an assembly to what lies below it
-pub record Joined (okl okr : Type 0) (left right : Meaning) (own : Kits) : Type 0 where
-  pub left_side : Side okl left own.left (orders_of own.orders) own.days
-  pub right_side : Side okr right own.right (orders_of own.orders) own.days
+pub record Joined (left right : Meaning) (own : Kits) : Type 0 where
+  pub left_side : Side left own.left (orders_of own.orders) own.days
+  pub right_side : Side right own.right (orders_of own.orders) own.days
   pub left_waits : own.left_wait ≡ own.left * span left.service.quote (max left.service.quote right.service.quote) (orders_of own.orders)
   pub right_waits : own.right_wait ≡ own.right * span right.service.quote (max left.service.quote right.service.quote) (orders_of own.orders)

@@ -15,9 +15,9 @@ use Rattle.assemblies.specs.Scaling.{get-times, shared-left, shared-right, share
 use Rattle.assemblies.specs.Joining.{kits_refused, none_of}
 use Rattle.assemblies.specs.Scaled.{shelves-scaled, left_line, right_line}
 
-pub assembled_sound : (okl okr : Type 0) (own : Kits) (left right : Meaning) → Joined okl okr left right own → Sound left → Sound right →
+pub assembled_sound : (own : Kits) (left right : Meaning) → Joined left right own → Sound left → Sound right →
     Sound (assembled own left right)
-assembled_sound okl okr own left right v sl sr =
+assembled_sound own left right v sl sr =
     let ls = sl.service in
     let rs = sr.service in
     let orders = orders_of own.orders in
@@ -44,10 +44,10 @@ side_allowed : (c : ℕ) (limit both : ℕ → ℕ) → ((k : ℕ) → c * both 
 side_allowed c limit both h zero = let z = mul-zero c in omega arith
 side_allowed c limit both h (suc k) = h (suc k)
 
-pub assembled_shelved : (okl okr : Type 0) (own : Kits) (left right : Meaning) (ps qs : List Placed) → Joined okl okr left right own →
+pub assembled_shelved : (own : Kits) (left right : Meaning) (ps qs : List Placed) → Joined left right own →
     AllByRecursion (Shelved left) ps → AllByRecursion (Shelved right) qs →
     AllByRecursion (Shelved (assembled own left right)) (map (scaled own.left 1) ps ++ map (scaled own.right (1 + length left.sheet)) qs)
-assembled_shelved okl okr own left right ps qs v all others =
+assembled_shelved own left right ps qs v all others =
     let L = left.service.limit in
     let R = right.service.limit in
     let t = assembled own left right in

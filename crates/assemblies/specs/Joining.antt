@@ -8,7 +8,7 @@ use Rattle.supplier.specs.declared.fault.Cause.TheVariants.{TermSpent, OverDay, 
 use Rattle.supplier.specs.declared.fault.Fault.{Fault}
 use Rattle.supplier.specs.Orders.{term}
 use Rattle.supplier.specs.Finders.{fault}
-use Rattle.supplier.specs.Meaning.{Service, Refused, Caused}
+use Rattle.supplier.specs.Meaning.{most_layers, Service, Refused, Caused}
 use Rattle.layers.specs.Carrying.{carried, carries}
 use Rattle.assemblies.specs.Assemblies.{times, shared, either, kits_refusal, assembled_service}
 use Rattle.assemblies.specs.Scaling.{window-times, shared-above}
@@ -40,7 +40,7 @@ side_caused c t s q f OverWindow p l top (d, o, (k, from, near, over), two, w) =
 side_refused : (c : ℕ) (t s : Service) (q : ℕ) (f : Fault) → Part c t.limit t.days t.book s → t.days < term → q ≤ t.limit 1 →
     Refused s (c * q) (Some f) → Refused t q (Some (carried f))
 side_refused c t s q f p l top (day, layers, cause) =
-    (let e = p.together in day ∙ ap (λ n. n + 1) e, (let m : min (f.layers + 1) 1000 ≤ 1000 = omega arith in m), side_caused c t s q f f.cause p l top cause)
+    (let e = p.together in day ∙ ap (λ n. n + 1) e, (let m : min (f.layers + 1) most_layers ≤ most_layers = omega arith in m), side_caused c t s q f f.cause p l top cause)
 
 module _ (number a b days : ℕ) (orders : List ℕ) (left right : Service) (some : 1 ≤ a) (more : 1 ≤ b)
     (lp : Part a (shared left.limit right.limit a b) days orders left) (rp : Part b (shared left.limit right.limit a b) days orders right) where

@@ -1,31 +1,26 @@
 // An assembly at work as a supplier.
 ghost use Rattle.std.specs.Prelude.{◌+◌, ◌++◌, map, length};
-ghost use Rattle.assemblies.specs.Assemblies.{assembled, assembly_layout, scaled, Joined};
+ghost use Rattle.assemblies.specs.Assemblies.{assembled, assembly_layout, scaled};
 ghost use Rattle.assemblies.specs.AssemblyLaws.{assembled_sound, assembled_shelved};
 
 use crate::assembly::Assembling;
 use layers::{carry, send};
-use supplier::{Cause, Fault, Kind, Line, Supplier, TERM};
+use supplier::{Cause, Fault, Kind, Line, MOST_LINES, Supplier, TERM};
 
 impl<L: Supplier, R: Supplier> Supplier for Assembling<L, R> {
-    ghost valid = { λ s. Joined (L.Supplier.valid s.left) (R.Supplier.valid s.right) (L.Supplier.meaning s.left) (R.Supplier.meaning s.right) s.own };
+    ghost meaning = { λ s. assembled s.own (L.meaning s.left) (R.meaning s.right) };
 
-    ghost meaning = { λ s. assembled s.own (L.Supplier.meaning s.left) (R.Supplier.meaning s.right) };
+    ghost layout = { λ s. assembly_layout s.own.number s.own.left s.own.right (L.meaning s.left).service.quote (R.meaning s.right).service.quote (L.layout s.left) (R.layout s.right) };
 
-    ghost layout = { λ s. assembly_layout s.own.number s.own.left s.own.right (L.Supplier.meaning s.left).service.quote (R.Supplier.meaning s.right).service.quote (L.Supplier.layout s.left) (R.Supplier.layout s.right) };
+    ghost shelves = { λ s. map (scaled s.own.left 1) (L.shelves s.left) ++ map (scaled s.own.right (1 + length (L.meaning s.left).sheet)) (R.shelves s.right) };
 
-    ghost shelves = { λ s. map (scaled s.own.left 1) (L.Supplier.shelves s.left) ++ map (scaled s.own.right (1 + length (L.Supplier.meaning s.left).sheet)) (R.Supplier.shelves s.right) };
+    ghost sound = { λ s. assembled_sound s.own (L.meaning s.left) (R.meaning s.right) s.joined (L.sound s.left) (R.sound s.right) };
 
-    ghost sound = { λ s v.
-        assembled_sound (L.Supplier.valid s.left) (R.Supplier.valid s.right) s.own (L.Supplier.meaning s.left) (R.Supplier.meaning s.right)
-        v (L.Supplier.sound s.left v.left_side.side_ok) (R.Supplier.sound s.right v.right_side.side_ok) };
+    ghost shelved = { λ s.
+        assembled_shelved s.own (L.meaning s.left) (R.meaning s.right) (L.shelves s.left) (R.shelves s.right)
+        s.joined (L.shelved s.left) (R.shelved s.right) };
 
-    ghost shelved = { λ s v.
-        assembled_shelved (L.Supplier.valid s.left) (R.Supplier.valid s.right) s.own (L.Supplier.meaning s.left) (R.Supplier.meaning s.right)
-        (L.Supplier.shelves s.left) (R.Supplier.shelves s.right)
-        v (L.Supplier.shelved s.left v.left_side.side_ok) (R.Supplier.shelved s.right v.right_side.side_ok) };
-
-    ghost enveloped = { λ s v. tt };
+    ghost enveloped = { λ _. tt };
 
     fn quote(&self) -> u8 {
         self.left.quote().max(self.right.quote())
@@ -48,11 +43,11 @@ impl<L: Supplier, R: Supplier> Supplier for Assembling<L, R> {
     fn lines(&self) -> usize {
         let left = self.left.lines();
         let right = self.right.lines();
-        left.saturating_add(right).saturating_add(1).min(1_000)
+        left.saturating_add(right).saturating_add(1).min(MOST_LINES)
     }
 
     fn line(&self, i: usize) -> Option<Line> {
-        if i >= 1_000 {
+        if i >= MOST_LINES {
             return None;
         }
         if i > 0 {

@@ -32,25 +32,25 @@ tried own L R q top read x y l r steady ne t o h a el b er =
 
 -- the right is not asked where the left refuses
 pub returns-in-Some : goal.returns-in-Some
-returns-in-Some g c v =
+returns-in-Some g c =
     let s = c.args.self.now in
     let R = (g.R.Supplier.meaning s.right).service in
     ap Some c.carry.ensures
     ∙ tried s.own (g.L.Supplier.meaning s.left).service R c.args.q c.unwrap_or-top.result c.limit.result c.saturating_mul.result (cut s.own.right c.args.q)
-    (Some c.in-Some.fault) (R.refusal (cut s.own.right c.args.q)) (g.met.L.Supplier.sound s.left v.left_side.side_ok).service c.if-self-eq-TERM.false
-    c.unwrap_or-top.ensures (c.limit.ensures v) c.if-q-top.false c.saturating_mul.ensures (c.in-Some.ensures v.left_side.side_ok) refl refl
+    (Some c.in-Some.fault) (R.refusal (cut s.own.right c.args.q)) (g.met.L.Supplier.sound s.left).service c.if-self-eq-TERM.false
+    c.unwrap_or-top.ensures c.limit.ensures c.if-q-top.false c.saturating_mul.ensures (c.in-Some.ensures) refl refl
 
 pub returns-in-None : goal.returns-in-None
-returns-in-None g c v =
+returns-in-None g c =
     let s = c.args.self.now in
     tried s.own (g.L.Supplier.meaning s.left).service (g.R.Supplier.meaning s.right).service c.args.q c.unwrap_or-top.result c.limit.result c.saturating_mul.result c.saturating_mul-2.result
-    None None (g.met.L.Supplier.sound s.left v.left_side.side_ok).service c.if-self-eq-TERM.false c.unwrap_or-top.ensures (c.limit.ensures v) c.if-q-top.false
-    c.saturating_mul.ensures (c.in_default.ensures v.left_side.side_ok) c.saturating_mul-2.ensures (c.in-None.ensures v.right_side.side_ok)
+    None None (g.met.L.Supplier.sound s.left).service c.if-self-eq-TERM.false c.unwrap_or-top.ensures c.limit.ensures c.if-q-top.false
+    c.saturating_mul.ensures (c.in_default.ensures) c.saturating_mul-2.ensures (c.in-None.ensures)
 
 pub returns-in-Some-trial : goal.returns-in-Some-trial
-returns-in-Some-trial g c v =
+returns-in-Some-trial g c =
     let s = c.args.self.now in
     ap Some c.carry-in-Some-trial.ensures
     ∙ tried s.own (g.L.Supplier.meaning s.left).service (g.R.Supplier.meaning s.right).service c.args.q c.unwrap_or-top.result c.limit.result c.saturating_mul.result c.saturating_mul-2.result
-    None (Some c.in-Some-trial.fault) (g.met.L.Supplier.sound s.left v.left_side.side_ok).service c.if-self-eq-TERM.false c.unwrap_or-top.ensures (c.limit.ensures v) c.if-q-top.false
-    c.saturating_mul.ensures (c.in_default.ensures v.left_side.side_ok) c.saturating_mul-2.ensures (c.in-Some-trial.ensures v.right_side.side_ok)
+    None (Some c.in-Some-trial.fault) (g.met.L.Supplier.sound s.left).service c.if-self-eq-TERM.false c.unwrap_or-top.ensures c.limit.ensures c.if-q-top.false
+    c.saturating_mul.ensures (c.in_default.ensures) c.saturating_mul-2.ensures (c.in-Some-trial.ensures)
