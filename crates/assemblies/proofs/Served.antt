@@ -49,13 +49,13 @@ pub record Served (ll rl : Layout) (own : Kits) (q from-left from-right delivery
   pub early : own.days < term
   pub little : q ≤ most
   pub close : max left.service.quote right.service.quote ≤ horizon
-  pub left_sent : Sent ll own.left q from-left (orders_of own.orders) left left'
-  pub right_sent : Sent rl own.right q from-right (orders_of own.orders) right right'
+  pub left_sent : Sent ll own.left.per_kit q from-left (orders_of own.orders) left left'
+  pub right_sent : Sent rl own.right.per_kit q from-right (orders_of own.orders) right right'
   pub delivered : delivery ≡ due (max left.service.quote right.service.quote) (orders_of own.orders) q
 
 pub served : (ll rl : Layout) (own : Kits) (q x y quote from-left from-right delivery : ℕ) (told : Option ℕ) (left right left' right' : Meaning) →
     Joined left right own → Sound left → Sound right → None ≡ (assembled own left right).service.refusal q →
-    x ≡ min (own.left * q) (2 ^ 64 - 1) → Answers ll x from-left left left' → y ≡ min (own.right * q) (2 ^ 64 - 1) → Answers rl y from-right right right' →
+    x ≡ min (own.left.per_kit * q) (2 ^ 64 - 1) → Answers ll x from-left left left' → y ≡ min (own.right.per_kit * q) (2 ^ 64 - 1) → Answers rl y from-right right right' →
     quote ≡ max left.service.quote right.service.quote → told ≡ near quote (due quote (orders_of own.orders) q) → delivery ≡ unwrap_or told 0 →
     Served ll rl own q from-left from-right delivery left right left' right'
 served ll rl own q x y quote from-left from-right delivery told left right left' right' tied ls rs free xe la ye ra qe te de =
@@ -63,9 +63,9 @@ served ll rl own q x y quote from-left from-right delivery told left right left'
     let L = left.service in
     let R = right.service in
     let f =
-    kits_free own.number own.left own.right own.days orders L R own.left_some own.right_some
-    (record { allows = shared-left L.limit R.limit own.left own.right; same = tied.left_side.same; together = tied.left_side.together })
-    (record { allows = shared-right L.limit R.limit own.left own.right; same = tied.right_side.same; together = tied.right_side.together })
+    kits_free own.number own.left.per_kit own.right.per_kit own.days orders L R own.left.some own.right.some
+    (record { allows = shared-left L.limit R.limit own.left.per_kit own.right.per_kit; same = tied.left_side.same; together = tied.left_side.together })
+    (record { allows = shared-right L.limit R.limit own.left.per_kit own.right.per_kit; same = tied.right_side.same; together = tied.right_side.together })
     q own.until (sym free) in
     let small : q ≤ most = let t = f.top in let s = top_small own L R ls.service in omega arith in
     let by : max L.quote R.quote ≤ horizon = let a = ls.service.near in let b = rs.service.near in omega arith in
@@ -73,8 +73,8 @@ served ll rl own q x y quote from-left from-right delivery told left right left'
       early = f.early;
       little = small;
       close = by;
-      left_sent = side_sent ll own.left q x from-left orders left left' own.left_few small xe tied.left_side.same f.left-free la;
-      right_sent = side_sent rl own.right q y from-right orders right right' own.right_few small ye tied.right_side.same f.right-free ra;
+      left_sent = side_sent ll own.left.per_kit q x from-left orders left left' own.left.few small xe tied.left_side.same f.left-free la;
+      right_sent = side_sent rl own.right.per_kit q y from-right orders right right' own.right.few small ye tied.right_side.same f.right-free ra;
       delivered = de ∙ ap (λ o. unwrap_or o 0) te ∙ (λ i. unwrap_or (near (qe i) (due (qe i) orders q)) 0)
           ∙ near_value (max L.quote R.quote) (due (max L.quote R.quote) orders q) by;
     }
@@ -91,23 +91,23 @@ module _ {ll rl : Layout} {own own' : Kits} {q from-left from-right delivery : �
       let late = max L.quote R.quote in
       let ordered = kit.orders s.little in
       let days = kit.days s.early in
-      let l = wait_step own.left L.quote late q own.left_wait from-left delivery own.orders own.left_few (omega arith) s.close s.little tied.left_waits ls.received_due s.delivered in
-      let r = wait_step own.right R.quote late q own.right_wait from-right delivery own.orders own.right_few (omega arith) s.close s.little tied.right_waits rs.received_due s.delivered in
+      let l = wait_step own.left.per_kit L.quote late q own.left.waiting from-left delivery own.orders own.left.few (omega arith) s.close s.little tied.left_waits ls.received_due s.delivered in
+      let r = wait_step own.right.per_kit R.quote late q own.right.waiting from-right delivery own.orders own.right.few (omega arith) s.close s.little tied.right_waits rs.received_due s.delivered in
       record {
         left_side = record {
-          same = ls.book ∙ (λ i. times (sym kit.left i) (sym ordered i));
+          same = ls.book ∙ (λ i. times (sym kit.left.per_kit i) (sym ordered i));
           together = ls.days ∙ ap (λ n. n + 1) tied.left_side.together ∙ sym days;
         };
         right_side = record {
-          same = rs.book ∙ (λ i. times (sym kit.right i) (sym ordered i));
+          same = rs.book ∙ (λ i. times (sym kit.right.per_kit i) (sym ordered i));
           together = rs.days ∙ ap (λ n. n + 1) tied.right_side.together ∙ sym days;
         };
-        left_waits = kit.left_wait l.1 l.0 ∙ l.2 ∙ (λ i. sym kit.left i * span (sym ls.quote i) (max (sym ls.quote i) (sym rs.quote i)) (sym ordered i));
-        right_waits = kit.right_wait r.1 r.0 ∙ r.2 ∙ (λ i. sym kit.right i * span (sym rs.quote i) (max (sym ls.quote i) (sym rs.quote i)) (sym ordered i));
+        left_waits = kit.left.waiting l.1 l.0 ∙ l.2 ∙ (λ i. sym kit.left.per_kit i * span (sym ls.quote i) (max (sym ls.quote i) (sym rs.quote i)) (sym ordered i));
+        right_waits = kit.right.waiting r.1 r.0 ∙ r.2 ∙ (λ i. sym kit.right.per_kit i * span (sym rs.quote i) (max (sym ls.quote i) (sym rs.quote i)) (sym ordered i));
       }
 
   pub day_answers : None ≡ (assembled own left right).service.refusal q →
-      Day (assembly_layout own.number own.left own.right left.service.quote right.service.quote ll rl) (assembled own left right) q (Ok delivery) (assembled own' left' right')
+      Day (assembly_layout own.number own.left.per_kit own.right.per_kit left.service.quote right.service.quote ll rl) (assembled own left right) q (Ok delivery) (assembled own' left' right')
   day_answers free =
       let orders = orders_of own.orders in
       let L = left.service in
@@ -116,20 +116,20 @@ module _ {ll rl : Layout} {own own' : Kits} {q from-left from-right delivery : �
       let rs = s.right_sent in
       let late = max L.quote R.quote in
       let ordered = kit.orders s.little in
-      let line = assembly_line own.number own.left own.right L.quote R.quote (q ∷ orders) (get_or (q ∷ orders) late 0) in
+      let line = assembly_line own.number own.left.per_kit own.right.per_kit L.quote R.quote (q ∷ orders) (get_or (q ∷ orders) late 0) in
       let step =
-      assembly_line_step own.number own'.number own.left own'.left own.right own'.right L.quote left'.service.quote R.quote right'.service.quote q own'.delivered
+      assembly_line_step own.number own'.number own.left.per_kit own'.left.per_kit own.right.per_kit own'.right.per_kit L.quote left'.service.quote R.quote right'.service.quote q own'.delivered
       orders (orders_of own'.orders) (let x = s.close in omega arith) (let x = s.close in omega arith)
-      kit.number kit.left kit.right ls.quote rs.quote ordered (kit.delivered ∙ s.delivered) in (
+      kit.number kit.left.per_kit kit.right.per_kit ls.quote rs.quote ordered (kit.delivered ∙ s.delivered) in (
         sym free,
         s.delivered,
         record {
           quote = (λ i. max (ls.quote i) (rs.quote i));
-          limit = (λ i. shared (ls.limit i) (rs.limit i) (kit.left i) (kit.right i));
+          limit = (λ i. shared (ls.limit i) (rs.limit i) (kit.left.per_kit i) (kit.right.per_kit i));
           days = kit.days s.early;
           book = ordered;
         },
-        subst (λ x. Laid (joined (λ xs ys. topped line (xs ++ ys)) (ll (times own.left (q ∷ orders))) (rl (times own.right (q ∷ orders)))) (topped x (left'.sheet ++ right'.sheet)))
+        subst (λ x. Laid (joined (λ xs ys. topped line (xs ++ ys)) (ll (times own.left.per_kit (q ∷ orders))) (rl (times own.right.per_kit (q ∷ orders)))) (topped x (left'.sheet ++ right'.sheet)))
             (sym step)
-            (laid_joined line (ll (times own.left (q ∷ orders))) (rl (times own.right (q ∷ orders))) left'.sheet right'.sheet ls.laid rs.laid),
+            (laid_joined line (ll (times own.left.per_kit (q ∷ orders))) (rl (times own.right.per_kit (q ∷ orders))) left'.sheet right'.sheet ls.laid rs.laid),
       )

@@ -29,12 +29,12 @@ AssemblyPasses left right number a b = AssemblyAsked left right number a b None
 -- an assembly's figures before the first day
 pub record Unkitted (number a b : ℕ) (own : Kits) : Type 0 where
   pub numbered : own.number ≡ number
-  pub lefts : own.left ≡ a
-  pub rights : own.right ≡ b
+  pub lefts : own.left.per_kit ≡ a
+  pub rights : own.right.per_kit ≡ b
   pub none : orders_of own.orders ≡ no_orders
   pub unused : own.days ≡ 0
-  pub left_waits : own.left_wait ≡ 0
-  pub right_waits : own.right_wait ≡ 0
+  pub left_waits : own.left.waiting ≡ 0
+  pub right_waits : own.right.waiting ≡ 0
   pub undelivered : own.delivered ≡ 0
 
 -- an assembly at work over these suppliers, before the first day

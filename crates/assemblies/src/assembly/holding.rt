@@ -9,13 +9,13 @@ use supplier::Supplier;
 impl<L: Supplier, R: Supplier> Assembling<L, R> {
     /// The parts that wait: received from one side, and not in a kit yet.
     pub fn waiting(&self) -> Parts
-        ensures left { result.left ≡ self.now.own.left_wait }
-        ensures right { result.right ≡ self.now.own.right_wait }
+        ensures left { result.left ≡ self.now.own.left.waiting }
+        ensures right { result.right ≡ self.now.own.right.waiting }
         ensures conserves { AssemblyConserves (L.meaning self.now.left) (R.meaning self.now.right) self.now.own result }
     {
         Parts {
-            left: self.own.left_wait,
-            right: self.own.right_wait,
+            left: self.own.left.waiting,
+            right: self.own.right.waiting,
         }
     }
 }

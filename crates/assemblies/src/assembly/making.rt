@@ -7,6 +7,7 @@ ghost use Rattle.assemblies.specs.AssemblyMaking.{assembly_ranges, AssemblyAsked
 
 use crate::assembly::Assembling;
 use crate::kits::Kits;
+use crate::part::Part;
 use figures::{Range, Refusal, range_refusal};
 use layers::Layer;
 use supplier::{Book, Kind, NUMBERS, Supplier, kept_number};
@@ -30,12 +31,16 @@ fn unkitted(number: u16, left: u64, right: u64) -> Kits
 {
     Kits {
         number,
-        left,
-        right,
+        left: Part {
+            per_kit: left,
+            waiting: 0,
+        },
+        right: Part {
+            per_kit: right,
+            waiting: 0,
+        },
         orders: Book::new(),
         days: 0,
-        left_wait: 0,
-        right_wait: 0,
         delivered: 0,
     }
 }
@@ -49,10 +54,7 @@ impl<L: Supplier, R: Supplier> Assembling<L, R> {
         if let Some(refusal) = range_refusal(&[number, a, b], &RANGES) {
             return Some(refusal);
         }
-        if left.days() != 0 {
-            return Some(Refusal::Started);
-        }
-        if right.days() != 0 {
+        if left.days() != 0 || right.days() != 0 {
             return Some(Refusal::Started);
         }
         None

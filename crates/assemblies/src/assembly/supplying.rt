@@ -4,15 +4,15 @@ ghost use Rattle.assemblies.specs.Assemblies.{assembled, assembly_layout, scaled
 ghost use Rattle.assemblies.specs.AssemblyLaws.{assembled_sound, assembled_shelved};
 
 use crate::assembly::Assembling;
-use layers::{carry, send};
-use supplier::{Cause, Fault, Kind, Line, MOST_LINES, Supplier, TERM};
+use layers::{carry, lines_over, send};
+use supplier::{Broken, Fault, Kind, Line, MOST_LINES, Supplier, TERM};
 
 impl<L: Supplier, R: Supplier> Supplier for Assembling<L, R> {
     ghost meaning = { λ s. assembled s.own (L.meaning s.left) (R.meaning s.right) };
 
-    ghost layout = { λ s. assembly_layout s.own.number s.own.left s.own.right (L.meaning s.left).service.quote (R.meaning s.right).service.quote (L.layout s.left) (R.layout s.right) };
+    ghost layout = { λ s. assembly_layout s.own.number s.own.left.per_kit s.own.right.per_kit (L.meaning s.left).service.quote (R.meaning s.right).service.quote (L.layout s.left) (R.layout s.right) };
 
-    ghost shelves = { λ s. map (scaled s.own.left 1) (L.shelves s.left) ++ map (scaled s.own.right (1 + length (L.meaning s.left).sheet)) (R.shelves s.right) };
+    ghost shelves = { λ s. map (scaled s.own.left.per_kit 1) (L.shelves s.left) ++ map (scaled s.own.right.per_kit (1 + length (L.meaning s.left).sheet)) (R.shelves s.right) };
 
     ghost sound = { λ s. assembled_sound s.own (L.meaning s.left) (R.meaning s.right) s.joined (L.sound s.left) (R.sound s.right) };
 
@@ -27,13 +27,9 @@ impl<L: Supplier, R: Supplier> Supplier for Assembling<L, R> {
     }
 
     fn limit(&self, k: u8) -> Option<u64> {
-        let Some(left) = self.left.limit(k) else {
-            return None;
-        };
-        let Some(right) = self.right.limit(k) else {
-            return None;
-        };
-        Some((left / self.own.left).min(right / self.own.right))
+        let left = self.left.limit(k)? / self.own.left.per_kit;
+        let right = self.right.limit(k)? / self.own.right.per_kit;
+        Some(left.min(right))
     }
 
     fn days(&self) -> u32 {
@@ -41,9 +37,7 @@ impl<L: Supplier, R: Supplier> Supplier for Assembling<L, R> {
     }
 
     fn lines(&self) -> usize {
-        let left = self.left.lines();
-        let right = self.right.lines();
-        left.saturating_add(right).saturating_add(1).min(MOST_LINES)
+        lines_over(self.left.lines().saturating_add(self.right.lines()))
     }
 
     fn line(&self, i: usize) -> Option<Line> {
@@ -70,38 +64,22 @@ impl<L: Supplier, R: Supplier> Supplier for Assembling<L, R> {
     }
 
     fn trial(&self, q: u64) -> Option<Fault> {
-        let number = self.own.number;
-        let day = self.own.days + 1;
         if self.own.days == TERM {
-            return Some(Fault {
-                cause: Cause::TermSpent,
-                number,
-                day,
-                window: 0,
-                bound: TERM as u64,
-                sum: TERM as u64,
-                layers: 0,
-            });
+            return Some(Fault::term_spent(self.own.number));
         }
         let top = self.limit(1).unwrap_or(0);
         if q > top {
-            return Some(Fault {
-                cause: Cause::OverDay,
-                number,
-                day,
+            let broken = Broken {
                 window: 1,
                 bound: top,
                 sum: q,
-                layers: 0,
-            });
+            };
+            return Some(Fault::over(self.own.number, self.own.days + 1, broken));
         }
-        if let Some(fault) = self.left.trial(self.own.left.saturating_mul(q)) {
-            return Some(carry(fault));
-        }
-        match self.right.trial(self.own.right.saturating_mul(q)) {
-            None => None,
-            Some(fault) => Some(carry(fault)),
-        }
+        self.left
+            .trial(self.own.left.wanted(q))
+            .or_else(|| self.right.trial(self.own.right.wanted(q)))
+            .map(|fault| carry(fault))
     }
 
     fn day(&mut self, q: u64) -> Result<u64, Fault> {
@@ -109,8 +87,10 @@ impl<L: Supplier, R: Supplier> Supplier for Assembling<L, R> {
             return Err(fault);
         }
         let due = self.own.orders.due(self.quote(), q).unwrap_or(0);
-        let from_left = send(&mut self.left, self.own.left.saturating_mul(q));
-        let from_right = send(&mut self.right, self.own.right.saturating_mul(q));
+        let left = self.own.left.wanted(q);
+        let right = self.own.right.wanted(q);
+        let from_left = send(&mut self.left, left);
+        let from_right = send(&mut self.right, right);
         self.own.assemble(q, from_left, from_right, due);
         Ok(due)
     }

@@ -15,7 +15,7 @@ returns g c = record {
       let x = (g.met.L.Supplier.sound s.left).service.near in
       let y = (g.met.R.Supplier.sound s.right).service.near in
       let near : max ql qr ≤ horizon = omega arith in (
-        side_conserves s.own.left ql (max ql qr) s.own.left_wait (orders_of s.own.orders) orders b (omega arith) near s.joined.left_waits,
-        side_conserves s.own.right qr (max ql qr) s.own.right_wait (orders_of s.own.orders) orders b (omega arith) near s.joined.right_waits,
+        side_conserves s.own.left.per_kit ql (max ql qr) s.own.left.waiting (orders_of s.own.orders) orders b (omega arith) near s.joined.left_waits,
+        side_conserves s.own.right.per_kit qr (max ql qr) s.own.right.waiting (orders_of s.own.orders) orders b (omega arith) near s.joined.right_waits,
       );
 }

@@ -11,7 +11,7 @@ invariant_of-self g c =
           (served (g.L.Supplier.layout s.left) (g.R.Supplier.layout s.right) s.own c.args.q _ _ c.quote.result c.send-from_left.result c.send-from_right.result c.unwrap_or-due.result _
           (g.L.Supplier.meaning s.left) (g.R.Supplier.meaning s.right) (g.L.Supplier.meaning c.send-from_left.new.below) (g.R.Supplier.meaning c.send-from_right.new.below)
           s.joined (g.met.L.Supplier.sound s.left) (g.met.R.Supplier.sound s.right) c.in_default.ensures
-          c.saturating_mul.ensures c.send-from_left.ensures.taken c.saturating_mul-2.ensures c.send-from_right.ensures.taken c.quote.ensures c.due.ensures c.unwrap_or-due.ensures)
+          c.wanted-left.ensures c.send-from_left.ensures.taken c.wanted-right.ensures c.send-from_right.ensures.taken c.quote.ensures c.due.ensures c.unwrap_or-due.ensures)
           c.assemble.ensures;
     }
 
@@ -22,7 +22,7 @@ returns-clause-answers g c =
     (served (g.L.Supplier.layout s.left) (g.R.Supplier.layout s.right) s.own c.args.q _ _ c.quote.result c.send-from_left.result c.send-from_right.result c.unwrap_or-due.result _
     (g.L.Supplier.meaning s.left) (g.R.Supplier.meaning s.right) (g.L.Supplier.meaning c.send-from_left.new.below) (g.R.Supplier.meaning c.send-from_right.new.below)
     s.joined (g.met.L.Supplier.sound s.left) (g.met.R.Supplier.sound s.right) c.in_default.ensures
-    c.saturating_mul.ensures c.send-from_left.ensures.taken c.saturating_mul-2.ensures c.send-from_right.ensures.taken c.quote.ensures c.due.ensures c.unwrap_or-due.ensures)
+    c.wanted-left.ensures c.send-from_left.ensures.taken c.wanted-right.ensures c.send-from_right.ensures.taken c.quote.ensures c.due.ensures c.unwrap_or-due.ensures)
     c.assemble.ensures c.in_default.ensures
 
 pub returns-clause-stocks : goal.returns-clause-stocks
@@ -31,6 +31,6 @@ returns-clause-stocks g c =
     let kit = c.assemble.ensures in
     let shelves = g.L.Supplier.shelves c.send-from_left.new.below in
     let others = g.R.Supplier.shelves c.send-from_right.new.below in
-    figures_both c.assemble.new.self.left 1 shelves c.assemble.new.self.right (1 + length (g.L.Supplier.meaning c.send-from_left.new.below).sheet) others
-    ∙ (λ i. map (scale (kit.left i)) (c.send-from_left.ensures.stocks i) ++ map (scale (kit.right i)) (c.send-from_right.ensures.stocks i))
-    ∙ sym (figures_both s.own.left 1 (g.L.Supplier.shelves s.left) s.own.right (1 + length (g.L.Supplier.meaning s.left).sheet) (g.R.Supplier.shelves s.right))
+    figures_both c.assemble.new.self.left.per_kit 1 shelves c.assemble.new.self.right.per_kit (1 + length (g.L.Supplier.meaning c.send-from_left.new.below).sheet) others
+    ∙ (λ i. map (scale (kit.left.per_kit i)) (c.send-from_left.ensures.stocks i) ++ map (scale (kit.right.per_kit i)) (c.send-from_right.ensures.stocks i))
+    ∙ sym (figures_both s.own.left.per_kit 1 (g.L.Supplier.shelves s.left) s.own.right.per_kit (1 + length (g.L.Supplier.meaning s.left).sheet) (g.R.Supplier.shelves s.right))

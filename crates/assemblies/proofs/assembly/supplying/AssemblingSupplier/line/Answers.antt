@@ -41,12 +41,12 @@ returns g c =
     let late = right.service.quote in
     let ls = (g.met.L.Supplier.sound s.left).service in
     let rs = (g.met.R.Supplier.sound s.right).service in
-    let a = waits_small own.left early (max early late) own.orders own.left_few (let x = ls.near in let y = rs.near in omega arith) in
-    let b = waits_small own.right late (max early late) own.orders own.right_few (let x = ls.near in let y = rs.near in omega arith) in
+    let a = waits_small own.left.per_kit early (max early late) own.orders own.left.few (let x = ls.near in let y = rs.near in omega arith) in
+    let b = waits_small own.right.per_kit late (max early late) own.orders own.right.few (let x = ls.near in let y = rs.near in omega arith) in
     let l = s.joined.left_waits in
     let r = s.joined.right_waits in
-    let h : c.saturating_add-held.result ≡ own.left * span early (max early late) orders + own.right * span late (max early late) orders =
+    let h : c.saturating_add-held.result ≡ own.left.per_kit * span early (max early late) orders + own.right.per_kit * span late (max early late) orders =
     let e = c.saturating_add-held.ensures in let x = c.waiting-waiting.ensures.left in let y = c.waiting-waiting.ensures.right in omega arith in
     let o : c.unwrap_or-order.result ≡ get_or orders 0 0 = c.unwrap_or-order.ensures ∙ ap (λ x. unwrap_or x 0) c.due.ensures in
     (λ i. Some (record { number = own.number; kind = kind.Assembly; order = o i; delivery = own.delivered; held = h i }))
-    ∙ topped-first (assembly_line own.number own.left own.right early late orders own.delivered) (left.sheet ++ right.sheet) c.args.i (omega arith)
+    ∙ topped-first (assembly_line own.number own.left.per_kit own.right.per_kit early late orders own.delivered) (left.sheet ++ right.sheet) c.args.i (omega arith)
