@@ -52,12 +52,12 @@ pub whole : (c q r : ℕ) → c ≤ 100 → q ≤ most → r ≡ min (c * q) (2 
 whole c q r a b e = let m : c * q ≤ 100 * most = mul-le-mul a b in omega arith
 
 -- the limit of a day, as it is read
-pub top_value : (own : Kits) (L R : Service) (t : ℕ) (o : Option ℕ) → t ≡ unwrap_or o 0 → o ≡ told_limit (shared L.limit R.limit own.left own.right) 1 →
-    t ≡ shared L.limit R.limit own.left own.right 1
-top_value own L R t o a b = a ∙ ap (λ x. unwrap_or x 0) b ∙ told_value (shared L.limit R.limit own.left own.right) 1 (omega arith) (omega arith)
+pub top_value : (own : Kits) (L R : Service) (t : ℕ) (o : Option ℕ) → t ≡ unwrap_or o 0 → o ≡ told_limit (shared L.limit R.limit own.left.per_kit own.right.per_kit) 1 →
+    t ≡ shared L.limit R.limit own.left.per_kit own.right.per_kit 1
+top_value own L R t o a b = a ∙ ap (λ x. unwrap_or x 0) b ∙ told_value (shared L.limit R.limit own.left.per_kit own.right.per_kit) 1 (omega arith) (omega arith)
 
-pub top_small : (own : Kits) (L R : Service) → Steady L → shared L.limit R.limit own.left own.right 1 ≤ most
-top_small own L R steady = shared-small L.limit R.limit own.left own.right 1 most own.left_some (steady.high 1 (omega arith) (omega arith))
+pub top_small : (own : Kits) (L R : Service) → Steady L → shared L.limit R.limit own.left.per_kit own.right.per_kit 1 ≤ most
+top_small own L R steady = shared-small L.limit R.limit own.left.per_kit own.right.per_kit 1 most own.left.some (steady.high 1 (omega arith) (omega arith))
 
 -- an assembly's line after a day, from the orders up to the day
 pub assembly_line_step : (number number' a a' b b' early early' late late' q delivered : ℕ) (book book' : List ℕ) → early ≤ horizon → late ≤ horizon →
@@ -74,26 +74,25 @@ assembly_line_step number number' a a' b b' early early' late late' q delivered 
     })
 
 -- an assembly of two suppliers that have taken no day is tied to them from the start
-side_new : (ok : Type 0) (m : Meaning) (c : ℕ) (own : Kits) → ok → Sound m → m.service.days ≡ 0 → own.days ≡ 0 → orders_of own.orders ≡ no_orders →
-    Side ok m c (orders_of own.orders) own.days
-side_new ok m c own o sound new unused none = record {
-  side_ok = o;
+side_new : (m : Meaning) (c : ℕ) (own : Kits) → Sound m → m.service.days ≡ 0 → own.days ≡ 0 → orders_of own.orders ≡ no_orders →
+    Side m c (orders_of own.orders) own.days
+side_new m c own sound new unused none = record {
   same =
       fresh m.service.days m.service.book sound.service.before new sound.service.long
       ∙ sym (ap (times c) none ∙ times_zeros c horizon);
   together = new ∙ sym unused;
 }
 
-pub joined_new : (okl okr : Type 0) (left right : Meaning) (number a b : ℕ) (own : Kits) → okl → okr → Sound left → Sound right →
-    (left.service.days ≡ 0) × (right.service.days ≡ 0) → Unkitted number a b own → Joined okl okr left right own
-joined_new okl okr left right number a b own ol or sl sr (nl, nr) e =
+pub joined_new : (left right : Meaning) (number a b : ℕ) (own : Kits) → Sound left → Sound right →
+    (left.service.days ≡ 0) × (right.service.days ≡ 0) → Unkitted number a b own → Joined left right own
+joined_new left right number a b own sl sr (nl, nr) e =
     let none = e.none in
     let z = λ (upto from : ℕ). ap (λ xs. span upto from xs) none ∙ zeros_total horizon upto (from - upto) in
     let early = left.service.quote in
     let late = right.service.quote in
     record {
-      left_side = side_new okl left own.left own ol sl nl e.unused none;
-      right_side = side_new okr right own.right own or sr nr e.unused none;
-      left_waits = e.left_waits ∙ sym (ap (λ n. own.left * n) (z early (max early late)) ∙ mul-zero own.left);
-      right_waits = e.right_waits ∙ sym (ap (λ n. own.right * n) (z late (max early late)) ∙ mul-zero own.right);
+      left_side = side_new left own.left.per_kit own sl nl e.unused none;
+      right_side = side_new right own.right.per_kit own sr nr e.unused none;
+      left_waits = e.left_waits ∙ sym (ap (λ n. own.left.per_kit * n) (z early (max early late)) ∙ mul-zero own.left.per_kit);
+      right_waits = e.right_waits ∙ sym (ap (λ n. own.right.per_kit * n) (z late (max early late)) ∙ mul-zero own.right.per_kit);
     }

@@ -1,2 +1,3 @@
 pub mod Kitted
+pub mod Served
 pub mod Conserving

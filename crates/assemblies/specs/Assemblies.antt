@@ -55,8 +55,8 @@ assembled_service number a b days orders left right = record {
 
 abbrev pub assembled : Kits → Meaning → Meaning → Meaning
 assembled own left right = record {
-  service = assembled_service own.number own.left own.right own.days (orders_of own.orders) left.service right.service;
-  sheet = topped (assembly_line own.number own.left own.right left.service.quote right.service.quote (orders_of own.orders) own.delivered) (left.sheet ++ right.sheet);
+  service = assembled_service own.number own.left.per_kit own.right.per_kit own.days (orders_of own.orders) left.service right.service;
+  sheet = topped (assembly_line own.number own.left.per_kit own.right.per_kit left.service.quote right.service.quote (orders_of own.orders) own.delivered) (left.sheet ++ right.sheet);
 }
 
 -- a layout of both sides, where both are told
@@ -77,14 +77,13 @@ scaled c places p = record {
 }
 
 -- what ties an assembly to one side
-pub record Side (ok : Type 0) (below : Meaning) (c : ℕ) (orders : List ℕ) (days : ℕ) : Type 0 where
-  pub side_ok : ok
+pub record Side (below : Meaning) (c : ℕ) (orders : List ℕ) (days : ℕ) : Type 0 where
   pub same : below.service.book ≡ times c orders
   pub together : below.service.days ≡ days
 
 -- what ties an assembly to what lies below it
-pub record Joined (okl okr : Type 0) (left right : Meaning) (own : Kits) : Type 0 where
-  pub left_side : Side okl left own.left (orders_of own.orders) own.days
-  pub right_side : Side okr right own.right (orders_of own.orders) own.days
-  pub left_waits : own.left_wait ≡ own.left * span left.service.quote (max left.service.quote right.service.quote) (orders_of own.orders)
-  pub right_waits : own.right_wait ≡ own.right * span right.service.quote (max left.service.quote right.service.quote) (orders_of own.orders)
+pub record Joined (left right : Meaning) (own : Kits) : Type 0 where
+  pub left_side : Side left own.left.per_kit (orders_of own.orders) own.days
+  pub right_side : Side right own.right.per_kit (orders_of own.orders) own.days
+  pub left_waits : own.left.waiting ≡ own.left.per_kit * span left.service.quote (max left.service.quote right.service.quote) (orders_of own.orders)
+  pub right_waits : own.right.waiting ≡ own.right.per_kit * span right.service.quote (max left.service.quote right.service.quote) (orders_of own.orders)

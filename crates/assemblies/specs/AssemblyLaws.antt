@@ -15,9 +15,9 @@ use Rattle.assemblies.specs.Scaling.{get-times, shared-left, shared-right, share
 use Rattle.assemblies.specs.Joining.{kits_refused, none_of}
 use Rattle.assemblies.specs.Scaled.{shelves-scaled, left_line, right_line}
 
-pub assembled_sound : (okl okr : Type 0) (own : Kits) (left right : Meaning) → Joined okl okr left right own → Sound left → Sound right →
+pub assembled_sound : (own : Kits) (left right : Meaning) → Joined left right own → Sound left → Sound right →
     Sound (assembled own left right)
-assembled_sound okl okr own left right v sl sr =
+assembled_sound own left right v sl sr =
     let ls = sl.service in
     let rs = sr.service in
     let orders = orders_of own.orders in
@@ -25,18 +25,18 @@ assembled_sound okl okr own left right v sl sr =
     let R = right.service.limit in
     sound-topped _ _ (left.sheet ++ right.sheet) (record {
       near = let a = ls.near in let b = rs.near in omega arith;
-      high = λ k a b. shared-small L R own.left own.right k most own.left_some (ls.high k a b);
-      grows = λ k a b. shared-grows L R own.left own.right k (k + 1) own.left_some own.right_some (ls.grows k a b) (rs.grows k a b);
+      high = λ k a b. shared-small L R own.left.per_kit own.right.per_kit k most own.left.some (ls.high k a b);
+      grows = λ k a b. shared-grows L R own.left.per_kit own.right.per_kit k (k + 1) own.left.some own.right.some (ls.grows k a b) (rs.grows k a b);
       until = own.until;
       long = orders-long own.orders;
       before = λ j h.
-          none_of own.left (slice_index orders j) own.left_some
-          (sym (get-times own.left orders j) ∙ ap (λ xs. slice_index xs j) (sym v.left_side.same) ∙ ls.before j (let e = v.left_side.together in omega arith));
+          none_of own.left.per_kit (slice_index orders j) own.left.some
+          (sym (get-times own.left.per_kit orders j) ∙ ap (λ xs. slice_index xs j) (sym v.left_side.same) ∙ ls.before j (let e = v.left_side.together in omega arith));
       refusals = λ q.
-          kits_refused own.number own.left own.right own.days orders left.service right.service own.left_some own.right_some
-          (record { allows = shared-left L R own.left own.right; same = v.left_side.same; together = v.left_side.together })
-          (record { allows = shared-right L R own.left own.right; same = v.right_side.same; together = v.right_side.together })
-          q own.until (ls.refusals (own.left * q)) (rs.refusals (own.right * q));
+          kits_refused own.number own.left.per_kit own.right.per_kit own.days orders left.service right.service own.left.some own.right.some
+          (record { allows = shared-left L R own.left.per_kit own.right.per_kit; same = v.left_side.same; together = v.left_side.together })
+          (record { allows = shared-right L R own.left.per_kit own.right.per_kit; same = v.right_side.same; together = v.right_side.together })
+          q own.until (ls.refusals (own.left.per_kit * q)) (rs.refusals (own.right.per_kit * q));
     })
 
 -- so many kits need no more of a side than it allows
@@ -44,16 +44,16 @@ side_allowed : (c : ℕ) (limit both : ℕ → ℕ) → ((k : ℕ) → c * both 
 side_allowed c limit both h zero = let z = mul-zero c in omega arith
 side_allowed c limit both h (suc k) = h (suc k)
 
-pub assembled_shelved : (okl okr : Type 0) (own : Kits) (left right : Meaning) (ps qs : List Placed) → Joined okl okr left right own →
+pub assembled_shelved : (own : Kits) (left right : Meaning) (ps qs : List Placed) → Joined left right own →
     AllByRecursion (Shelved left) ps → AllByRecursion (Shelved right) qs →
-    AllByRecursion (Shelved (assembled own left right)) (map (scaled own.left 1) ps ++ map (scaled own.right (1 + length left.sheet)) qs)
-assembled_shelved okl okr own left right ps qs v all others =
+    AllByRecursion (Shelved (assembled own left right)) (map (scaled own.left.per_kit 1) ps ++ map (scaled own.right.per_kit (1 + length left.sheet)) qs)
+assembled_shelved own left right ps qs v all others =
     let L = left.service.limit in
     let R = right.service.limit in
     let t = assembled own left right in
-    All-append (Shelved t) (map (scaled own.left 1) ps) (map (scaled own.right (1 + length left.sheet)) qs)
-    (shelves-scaled left t own.left 1 v.left_side.same (λ k h. side_allowed own.left L (shared L R own.left own.right) (shared-left L R own.left own.right) k)
+    All-append (Shelved t) (map (scaled own.left.per_kit 1) ps) (map (scaled own.right.per_kit (1 + length left.sheet)) qs)
+    (shelves-scaled left t own.left.per_kit 1 v.left_side.same (λ k h. side_allowed own.left.per_kit L (shared L R own.left.per_kit own.right.per_kit) (shared-left L R own.left.per_kit own.right.per_kit) k)
     (λ i h l. left_line _ left.sheet right.sheet i h l) ps all)
-    (shelves-scaled right t own.right (1 + length left.sheet) v.right_side.same
-    (λ k h. side_allowed own.right R (shared L R own.left own.right) (shared-right L R own.left own.right) k)
+    (shelves-scaled right t own.right.per_kit (1 + length left.sheet) v.right_side.same
+    (λ k h. side_allowed own.right.per_kit R (shared L R own.left.per_kit own.right.per_kit) (shared-right L R own.left.per_kit own.right.per_kit) k)
     (λ i h l. right_line _ left.sheet right.sheet i l) qs others)

@@ -16,5 +16,5 @@ SideConserves c early quote orders wait = delivered early (times c orders) ≡ c
 abbrev pub AssemblyConserves : Meaning → Meaning → Kits → Parts → Type 0
 AssemblyConserves left right own parts =
     (orders : List ℕ) → orders_of own.orders ≡ recent horizon orders →
-    SideConserves own.left left.service.quote (max left.service.quote right.service.quote) orders parts.left
-    × SideConserves own.right right.service.quote (max left.service.quote right.service.quote) orders parts.right
+    SideConserves own.left.per_kit left.service.quote (max left.service.quote right.service.quote) orders parts.left
+    × SideConserves own.right.per_kit right.service.quote (max left.service.quote right.service.quote) orders parts.right

@@ -8,19 +8,19 @@ use Rattle.supplier.specs.declared.fault.Cause.TheVariants.{TermSpent, OverDay, 
 use Rattle.supplier.specs.declared.fault.Fault.{Fault}
 use Rattle.supplier.specs.Orders.{term}
 use Rattle.supplier.specs.Finders.{fault}
-use Rattle.supplier.specs.Meaning.{Service, Refused, Caused}
+use Rattle.supplier.specs.Meaning.{most_layers, Service, Refused, Caused}
 use Rattle.layers.specs.Carrying.{carried, carries}
 use Rattle.assemblies.specs.Assemblies.{times, shared, either, kits_refusal, assembled_service}
 use Rattle.assemblies.specs.Scaling.{window-times, shared-above}
 
 -- one side of an assembly with this limit and these orders
-pub record Part (c : ℕ) (limit : ℕ → ℕ) (days : ℕ) (orders : List ℕ) (s : Service) : Type 0 where
+pub record Feeds (c : ℕ) (limit : ℕ → ℕ) (days : ℕ) (orders : List ℕ) (s : Service) : Type 0 where
   pub allows : (k : ℕ) → c * limit k ≤ s.limit k
   pub same : s.book ≡ times c orders
   pub together : s.days ≡ days
 
 -- the windows of a side
-side_window : (c : ℕ) (limit : ℕ → ℕ) (days : ℕ) (orders : List ℕ) (s : Service) → Part c limit days orders s → (q k : ℕ) →
+side_window : (c : ℕ) (limit : ℕ → ℕ) (days : ℕ) (orders : List ℕ) (s : Service) → Feeds c limit days orders s → (q k : ℕ) →
     window k (c * q ∷ s.book) ≡ c * window k (q ∷ orders)
 side_window c limit days orders s p q k = ap (λ b. window k (c * q ∷ b)) p.same ∙ window-times c k (q ∷ orders)
 
@@ -28,7 +28,7 @@ less : (c x y : ℕ) → c * x < c * y → x < y
 less c x y h = ⊎_elim (λ (l : x < y). l) (λ (l : y ≤ x). let m = mul-le-mul_left c l in absurd (omega arith)) (cases_lt x y)
 
 -- a fault of a side, as the assembly carries it
-side_caused : (c : ℕ) (t s : Service) (q : ℕ) (f : Fault) (cause : Cause) → Part c t.limit t.days t.book s → t.days < term → q ≤ t.limit 1 →
+side_caused : (c : ℕ) (t s : Service) (q : ℕ) (f : Fault) (cause : Cause) → Feeds c t.limit t.days t.book s → t.days < term → q ≤ t.limit 1 →
     Caused s (c * q) f cause → Caused t q (carried f) cause
 side_caused c t s q f TermSpent p l top (d, w, b, n) = absurd (let e = p.together in omega arith)
 side_caused c t s q f OverDay p l top (d, o, w) = absurd (let m = mul-le-mul_left c top in let a = p.allows 1 in omega arith)
@@ -37,13 +37,13 @@ side_caused c t s q f OverWindow p l top (d, o, (k, from, near, over), two, w) =
     let a = p.allows k in
     (l, top, (k, from, near, less c (t.limit k) (window k (q ∷ t.book)) (omega arith)), two, w)
 
-side_refused : (c : ℕ) (t s : Service) (q : ℕ) (f : Fault) → Part c t.limit t.days t.book s → t.days < term → q ≤ t.limit 1 →
+side_refused : (c : ℕ) (t s : Service) (q : ℕ) (f : Fault) → Feeds c t.limit t.days t.book s → t.days < term → q ≤ t.limit 1 →
     Refused s (c * q) (Some f) → Refused t q (Some (carried f))
 side_refused c t s q f p l top (day, layers, cause) =
-    (let e = p.together in day ∙ ap (λ n. n + 1) e, (let m : min (f.layers + 1) 1000 ≤ 1000 = omega arith in m), side_caused c t s q f f.cause p l top cause)
+    (let e = p.together in day ∙ ap (λ n. n + 1) e, (let m : min (f.layers + 1) most_layers ≤ most_layers = omega arith in m), side_caused c t s q f f.cause p l top cause)
 
 module _ (number a b days : ℕ) (orders : List ℕ) (left right : Service) (some : 1 ≤ a) (more : 1 ≤ b)
-    (lp : Part a (shared left.limit right.limit a b) days orders left) (rp : Part b (shared left.limit right.limit a b) days orders right) where
+    (lp : Feeds a (shared left.limit right.limit a b) days orders left) (rp : Feeds b (shared left.limit right.limit a b) days orders right) where
   both_refused : (q : ℕ) (l r : Option Fault) → days < term → q ≤ shared left.limit right.limit a b 1 → Refused left (a * q) l → Refused right (b * q) r →
       Refused (assembled_service number a b days orders left right) q (either (carries l) (carries r))
   both_refused q (Some f) r d top x y = side_refused a (assembled_service number a b days orders left right) left q f lp d top x

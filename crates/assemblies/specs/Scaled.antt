@@ -7,7 +7,7 @@ use Rattle.std.proofs.lemmas.Option.{slice_get_past}
 use Rattle.std.proofs.lemmas.Bool.{cases_lt}
 use Rattle.figures.specs.Days.{horizon, span}
 use Rattle.supplier.specs.declared.line.Line.{Line}
-use Rattle.supplier.specs.Meaning.{Meaning, Laid}
+use Rattle.supplier.specs.Meaning.{most_lines, Meaning, Laid}
 use Rattle.supplier.specs.Shelves.{Shelf, Placed, Shelved, Tells, held, allowed, figures_of}
 use Rattle.layers.specs.Sheets.{topped}
 use Rattle.layers.proofs.Topped.{topped_below}
@@ -38,7 +38,7 @@ owed-scaled c pieces upto from orders =
 
 shelf-scaled : (m t : Meaning) (c places : ℕ) → m.service.book ≡ times c t.service.book →
     ((k : ℕ) → k ≤ horizon → c * allowed t.service.limit k ≤ allowed m.service.limit k) →
-    ((i : ℕ) → i < length m.sheet → i + places < 1000 → slice_get t.sheet (i + places) ≡ slice_get m.sheet i) →
+    ((i : ℕ) → i < length m.sheet → i + places < most_lines → slice_get t.sheet (i + places) ≡ slice_get m.sheet i) →
     (p : Placed) → Shelved m p → Shelved t (scaled c places p)
 shelf-scaled m t c places same under line p s = record {
   order = s.order;
@@ -62,18 +62,18 @@ shelf-scaled m t c places same under line p s = record {
 
 pub shelves-scaled : (m t : Meaning) (c places : ℕ) → m.service.book ≡ times c t.service.book →
     ((k : ℕ) → k ≤ horizon → c * allowed t.service.limit k ≤ allowed m.service.limit k) →
-    ((i : ℕ) → i < length m.sheet → i + places < 1000 → slice_get t.sheet (i + places) ≡ slice_get m.sheet i) →
+    ((i : ℕ) → i < length m.sheet → i + places < most_lines → slice_get t.sheet (i + places) ≡ slice_get m.sheet i) →
     (ps : List Placed) → AllByRecursion (Shelved m) ps → AllByRecursion (Shelved t) (map (scaled c places) ps)
 shelves-scaled m t c places same under line [] all = tt
 shelves-scaled m t c places same under line (p ∷ ps) all =
     (shelf-scaled m t c places same under line p all.0, shelves-scaled m t c places same under line ps all.1)
 
 -- the places of both sides in the sheet
-pub left_line : (line : Line) (left right : List Line) (i : ℕ) → i < length left → i + 1 < 1000 → slice_get (topped line (left ++ right)) (i + 1) ≡ slice_get left i
+pub left_line : (line : Line) (left right : List Line) (i : ℕ) → i < length left → i + 1 < most_lines → slice_get (topped line (left ++ right)) (i + 1) ≡ slice_get left i
 left_line line left right i h l =
     topped_below line (left ++ right) (i + 1) (omega arith) l ∙ ap (slice_get (left ++ right)) (let e : (i + 1) - 1 ≡ i = omega arith in e) ∙ nth_left left right i h
 
-pub right_line : (line : Line) (left right : List Line) (i : ℕ) → i + (1 + length left) < 1000 → slice_get (topped line (left ++ right)) (i + (1 + length left)) ≡ slice_get right i
+pub right_line : (line : Line) (left right : List Line) (i : ℕ) → i + (1 + length left) < most_lines → slice_get (topped line (left ++ right)) (i + (1 + length left)) ≡ slice_get right i
 right_line line left right i l =
     topped_below line (left ++ right) (i + (1 + length left)) (omega arith) l
     ∙ nth_right left right ((i + (1 + length left)) - 1) (omega arith) ∙ ap (slice_get right) (let e : ((i + (1 + length left)) - 1) - length left ≡ i = omega arith in e)

@@ -3,6 +3,7 @@
 
 mod assembly;
 mod kits;
+mod part;
 mod parts;
 
 pub use assembly::Assembling;

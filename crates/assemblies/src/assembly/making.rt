@@ -7,8 +7,9 @@ ghost use Rattle.assemblies.specs.AssemblyMaking.{assembly_ranges, AssemblyAsked
 
 use crate::assembly::Assembling;
 use crate::kits::Kits;
+use crate::part::Part;
 use figures::{Range, Refusal, range_refusal};
-use layers::{Idle, Layer};
+use layers::Layer;
 use supplier::{Book, Kind, NUMBERS, Supplier, kept_number};
 
 /// An assembly over two suppliers, as its making gives it.
@@ -30,12 +31,16 @@ fn unkitted(number: u16, left: u64, right: u64) -> Kits
 {
     Kits {
         number,
-        left,
-        right,
+        left: Part {
+            per_kit: left,
+            waiting: 0,
+        },
+        right: Part {
+            per_kit: right,
+            waiting: 0,
+        },
         orders: Book::new(),
         days: 0,
-        left_wait: 0,
-        right_wait: 0,
         delivered: 0,
     }
 }
@@ -44,16 +49,12 @@ impl<L: Supplier, R: Supplier> Assembling<L, R> {
     /// The refusal of kits of so many parts of these two suppliers, or none.
     pub fn question(left: &L, right: &R, number: u64, a: u64, b: u64) -> Option<Refusal>
         ensures ranged { IfNone result (AllIn assembly_ranges (number ∷ a ∷ b ∷ [])) }
-        ensures asked { L.Supplier.valid left.now → R.Supplier.valid right.now
-            → AssemblyAsked (L.Supplier.meaning left.now) (R.Supplier.meaning right.now) number a b result }
+        ensures asked { AssemblyAsked (L.meaning left.now) (R.meaning right.now) number a b result }
     {
         if let Some(refusal) = range_refusal(&[number, a, b], &RANGES) {
             return Some(refusal);
         }
-        if left.days() != 0 {
-            return Some(Refusal::Started);
-        }
-        if right.days() != 0 {
+        if left.days() != 0 || right.days() != 0 {
             return Some(Refusal::Started);
         }
         None
@@ -61,14 +62,11 @@ impl<L: Supplier, R: Supplier> Assembling<L, R> {
 
     /// An assembly of these two suppliers; an idle layer where the question refuses it.
     pub fn over(left: L, right: R, number: u64, a: u64, b: u64) -> Assembly<L, R>
-        ensures { L.Supplier.valid left → R.Supplier.valid right → Given (AssemblyPasses (L.Supplier.meaning left) (R.Supplier.meaning right) number a b)
-            (AssemblyNew L.Supplier.valid R.Supplier.valid L.Supplier.meaning R.Supplier.meaning left right number a b) Kind.Assembly (named number) (left, right) result }
+        ensures { Given (AssemblyPasses (L.meaning left) (R.meaning right) number a b)
+            (AssemblyNew L.Supplier R.Supplier left right number a b) Kind.Assembly (named number) (left, right) result }
     {
-        if let Some(_) = Assembling::question(&left, &right, number, a, b) {
-            return Layer::Idle(
-                Idle::new(kept_number(number), Kind::Assembly),
-                (left, right),
-            );
+        if Assembling::question(&left, &right, number, a, b).is_some() {
+            return Layer::resting(number, Kind::Assembly, (left, right));
         }
         let own = unkitted(kept_number(number), a, b);
         Layer::Working(Assembling { left, right, own })

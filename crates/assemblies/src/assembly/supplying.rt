@@ -1,44 +1,35 @@
 // An assembly at work as a supplier.
 ghost use Rattle.std.specs.Prelude.{◌+◌, ◌++◌, map, length};
-ghost use Rattle.assemblies.specs.Assemblies.{assembled, assembly_layout, scaled, Joined};
+ghost use Rattle.assemblies.specs.Assemblies.{assembled, assembly_layout, scaled};
 ghost use Rattle.assemblies.specs.AssemblyLaws.{assembled_sound, assembled_shelved};
 
 use crate::assembly::Assembling;
-use layers::{carry, send};
-use supplier::{Cause, Fault, Kind, Line, Supplier, TERM};
+use layers::{carry, lines_over, send};
+use supplier::{Broken, Fault, Kind, Line, MOST_LINES, Supplier, TERM};
 
 impl<L: Supplier, R: Supplier> Supplier for Assembling<L, R> {
-    ghost valid = { λ s. Joined (L.Supplier.valid s.left) (R.Supplier.valid s.right) (L.Supplier.meaning s.left) (R.Supplier.meaning s.right) s.own };
+    ghost meaning = { λ s. assembled s.own (L.meaning s.left) (R.meaning s.right) };
 
-    ghost meaning = { λ s. assembled s.own (L.Supplier.meaning s.left) (R.Supplier.meaning s.right) };
+    ghost layout = { λ s. assembly_layout s.own.number s.own.left.per_kit s.own.right.per_kit (L.meaning s.left).service.quote (R.meaning s.right).service.quote (L.layout s.left) (R.layout s.right) };
 
-    ghost layout = { λ s. assembly_layout s.own.number s.own.left s.own.right (L.Supplier.meaning s.left).service.quote (R.Supplier.meaning s.right).service.quote (L.Supplier.layout s.left) (R.Supplier.layout s.right) };
+    ghost shelves = { λ s. map (scaled s.own.left.per_kit 1) (L.shelves s.left) ++ map (scaled s.own.right.per_kit (1 + length (L.meaning s.left).sheet)) (R.shelves s.right) };
 
-    ghost shelves = { λ s. map (scaled s.own.left 1) (L.Supplier.shelves s.left) ++ map (scaled s.own.right (1 + length (L.Supplier.meaning s.left).sheet)) (R.Supplier.shelves s.right) };
+    ghost sound = { λ s. assembled_sound s.own (L.meaning s.left) (R.meaning s.right) s.joined (L.sound s.left) (R.sound s.right) };
 
-    ghost sound = { λ s v.
-        assembled_sound (L.Supplier.valid s.left) (R.Supplier.valid s.right) s.own (L.Supplier.meaning s.left) (R.Supplier.meaning s.right)
-        v (L.Supplier.sound s.left v.left_side.side_ok) (R.Supplier.sound s.right v.right_side.side_ok) };
+    ghost shelved = { λ s.
+        assembled_shelved s.own (L.meaning s.left) (R.meaning s.right) (L.shelves s.left) (R.shelves s.right)
+        s.joined (L.shelved s.left) (R.shelved s.right) };
 
-    ghost shelved = { λ s v.
-        assembled_shelved (L.Supplier.valid s.left) (R.Supplier.valid s.right) s.own (L.Supplier.meaning s.left) (R.Supplier.meaning s.right)
-        (L.Supplier.shelves s.left) (R.Supplier.shelves s.right)
-        v (L.Supplier.shelved s.left v.left_side.side_ok) (R.Supplier.shelved s.right v.right_side.side_ok) };
-
-    ghost enveloped = { λ s v. tt };
+    ghost enveloped = { λ _. tt };
 
     fn quote(&self) -> u8 {
         self.left.quote().max(self.right.quote())
     }
 
     fn limit(&self, k: u8) -> Option<u64> {
-        let Some(left) = self.left.limit(k) else {
-            return None;
-        };
-        let Some(right) = self.right.limit(k) else {
-            return None;
-        };
-        Some((left / self.own.left).min(right / self.own.right))
+        let left = self.left.limit(k)? / self.own.left.per_kit;
+        let right = self.right.limit(k)? / self.own.right.per_kit;
+        Some(left.min(right))
     }
 
     fn days(&self) -> u32 {
@@ -46,13 +37,11 @@ impl<L: Supplier, R: Supplier> Supplier for Assembling<L, R> {
     }
 
     fn lines(&self) -> usize {
-        let left = self.left.lines();
-        let right = self.right.lines();
-        left.saturating_add(right).saturating_add(1).min(1_000)
+        lines_over(self.left.lines().saturating_add(self.right.lines()))
     }
 
     fn line(&self, i: usize) -> Option<Line> {
-        if i >= 1_000 {
+        if i >= MOST_LINES {
             return None;
         }
         if i > 0 {
@@ -75,38 +64,22 @@ impl<L: Supplier, R: Supplier> Supplier for Assembling<L, R> {
     }
 
     fn trial(&self, q: u64) -> Option<Fault> {
-        let number = self.own.number;
-        let day = self.own.days + 1;
         if self.own.days == TERM {
-            return Some(Fault {
-                cause: Cause::TermSpent,
-                number,
-                day,
-                window: 0,
-                bound: TERM as u64,
-                sum: TERM as u64,
-                layers: 0,
-            });
+            return Some(Fault::term_spent(self.own.number));
         }
         let top = self.limit(1).unwrap_or(0);
         if q > top {
-            return Some(Fault {
-                cause: Cause::OverDay,
-                number,
-                day,
+            let broken = Broken {
                 window: 1,
                 bound: top,
                 sum: q,
-                layers: 0,
-            });
+            };
+            return Some(Fault::over(self.own.number, self.own.days + 1, broken));
         }
-        if let Some(fault) = self.left.trial(self.own.left.saturating_mul(q)) {
-            return Some(carry(fault));
-        }
-        match self.right.trial(self.own.right.saturating_mul(q)) {
-            None => None,
-            Some(fault) => Some(carry(fault)),
-        }
+        self.left
+            .trial(self.own.left.wanted(q))
+            .or_else(|| self.right.trial(self.own.right.wanted(q)))
+            .map(|fault| carry(fault))
     }
 
     fn day(&mut self, q: u64) -> Result<u64, Fault> {
@@ -114,8 +87,10 @@ impl<L: Supplier, R: Supplier> Supplier for Assembling<L, R> {
             return Err(fault);
         }
         let due = self.own.orders.due(self.quote(), q).unwrap_or(0);
-        let from_left = send(&mut self.left, self.own.left.saturating_mul(q));
-        let from_right = send(&mut self.right, self.own.right.saturating_mul(q));
+        let left = self.own.left.wanted(q);
+        let right = self.own.right.wanted(q);
+        let from_left = send(&mut self.left, left);
+        let from_right = send(&mut self.right, right);
         self.own.assemble(q, from_left, from_right, due);
         Ok(due)
     }

@@ -8,14 +8,14 @@ pub returns : goal.returns
 returns g c = record {
   left = refl;
   right = refl;
-  conserves = λ v orders b.
+  conserves = λ orders b.
       let s = c.args.self.now in
       let ql = (g.L.Supplier.meaning s.left).service.quote in
       let qr = (g.R.Supplier.meaning s.right).service.quote in
-      let x = (g.met.L.Supplier.sound s.left v.left_side.side_ok).service.near in
-      let y = (g.met.R.Supplier.sound s.right v.right_side.side_ok).service.near in
+      let x = (g.met.L.Supplier.sound s.left).service.near in
+      let y = (g.met.R.Supplier.sound s.right).service.near in
       let near : max ql qr ≤ horizon = omega arith in (
-        side_conserves s.own.left ql (max ql qr) s.own.left_wait (orders_of s.own.orders) orders b (omega arith) near v.left_waits,
-        side_conserves s.own.right qr (max ql qr) s.own.right_wait (orders_of s.own.orders) orders b (omega arith) near v.right_waits,
+        side_conserves s.own.left.per_kit ql (max ql qr) s.own.left.waiting (orders_of s.own.orders) orders b (omega arith) near s.joined.left_waits,
+        side_conserves s.own.right.per_kit qr (max ql qr) s.own.right.waiting (orders_of s.own.orders) orders b (omega arith) near s.joined.right_waits,
       );
 }

@@ -1,20 +1,12 @@
-use Rattle.std.proofs.Common.{◌++◌, arith}
-use Rattle.std.proofs.lemmas.List.{length-append}
-use Rattle.supplier.specs.Books.{orders_of}
-use Rattle.layers.proofs.Topped.{topped-length}
-use Rattle.assemblies.specs.Assemblies.{assembly_line}
+use Rattle.std.proofs.Common.{◌-◌, ◌++◌, arith, length-append}
+use Rattle.std.proofs.lemmas.List.{length-take}
+use Rattle.supplier.specs.Meaning.{most_lines}
 use Rattle.assemblies.proofs.assembly.supplying.AssemblingSupplier.lines.Goals as goal
 
 pub returns : goal.returns
-returns g c v =
-    let s = c.args.self.now in
-    let left = g.L.Supplier.meaning s.left in
-    let right = g.R.Supplier.meaning s.right in
-    let own = s.own in
-    let l = topped-length (assembly_line own.number own.left own.right left.service.quote right.service.quote (orders_of own.orders) own.delivered) (left.sheet ++ right.sheet) in
+returns g c =
+    let left = g.L.Supplier.meaning c.args.self.now.left in
+    let right = g.R.Supplier.meaning c.args.self.now.right in
+    let l = length-take (most_lines - 1) (left.sheet ++ right.sheet) in
     let a = length-append left.sheet right.sheet in
-    let x = c.lines-left.ensures v.left_side.side_ok in
-    let y = c.lines-right.ensures v.right_side.side_ok in
-    let f = (g.met.L.Supplier.sound s.left v.left_side.side_ok).few in
-    let h = (g.met.R.Supplier.sound s.right v.right_side.side_ok).few in
-    omega arith
+    omega (arith, (g.met.L.Supplier.sound c.args.self.now.left).few, (g.met.R.Supplier.sound c.args.self.now.right).few)
