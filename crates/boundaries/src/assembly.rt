@@ -61,8 +61,8 @@ fn climbing_pile(rt: HostRuntime) -> Result<(), Fail> {
     let mut pile = Staging::over(kits, 6, 1, 3, 26, &bucket);
     assert_eq!(rt; pile.lines(), 6);
     let orders = climbing(&bucket);
-    for (day, held) in [26, 26, 26, 18, 10, 4, 0].iter().enumerate() {
-        assert!(rt; pile.day(orders[day]).is_ok());
+    for (held, order) in [26, 26, 26, 18, 10, 4, 0].iter().zip(&orders) {
+        assert!(rt; pile.day(*order).is_ok());
         let line = pile.line(0).ok_or("no line")?;
         assert_eq!(rt; line.held, *held);
     }

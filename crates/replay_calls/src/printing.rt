@@ -5,6 +5,7 @@ use std::fmt;
 use supplier::Line;
 
 /// A call with its answer, as it is printed.
+#[derive(Clone, Copy)]
 pub(crate) struct Told(pub Event);
 
 impl fmt::Display for Told {
@@ -26,6 +27,7 @@ impl fmt::Display for Told {
 }
 
 /// A line of the sheet, as it is printed: `number kind order delivery held`.
+#[derive(Clone, Copy)]
 struct Figures(Line);
 
 impl fmt::Display for Figures {
