@@ -1,12 +1,27 @@
-// The lines of a layer's sheet.
+// The lines of a layer's sheet: its own, and then those below.
 ghost use Rattle.std.specs.Prelude.{◌≡◌, ◌+◌, min};
+ghost use Rattle.std.specs.List.{slice_get};
 ghost use Rattle.supplier.specs.Meaning.{most_lines};
+ghost use Rattle.layers.specs.Sheets.{topped};
 
-use supplier::MOST_LINES;
+use supplier::{Line, MOST_LINES, Supplier};
 
 /// The lines that a layer tells: its own, and those below, up to the most lines.
 pub fn lines_over(below: usize) -> usize
     ensures { result ≡ min (below + 1) most_lines }
 {
     below.saturating_add(1).min(MOST_LINES)
+}
+
+/// The line with i lines above it on the sheet of a layer over one supplier: the layer's own line is the first.
+pub fn line_over<S: Supplier>(own: Line, below: &S, i: usize) -> Option<Line>
+    ensures { result ≡ slice_get (topped own (S.meaning below.now).sheet) i }
+{
+    if i >= MOST_LINES {
+        return None;
+    }
+    match i.checked_sub(1) {
+        None => Some(own),
+        Some(place) => below.line(place),
+    }
 }

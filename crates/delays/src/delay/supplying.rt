@@ -5,8 +5,8 @@ ghost use Rattle.delays.specs.Delays.{delayed, delay_layout};
 ghost use Rattle.delays.specs.DelayLaws.{delayed_sound, delayed_shelved};
 
 use crate::delay::Delaying;
-use layers::{carry, lines_over};
-use supplier::{Fault, Kind, Line, MOST_LINES, Supplier};
+use layers::{carry, line_over, lines_over};
+use supplier::{Fault, Kind, Line, Supplier};
 
 impl<S: Supplier> Supplier for Delaying<S> {
     ghost meaning = { λ s. delayed s.own (S.meaning s.below) };
@@ -38,19 +38,14 @@ impl<S: Supplier> Supplier for Delaying<S> {
     }
 
     fn line(&self, i: usize) -> Option<Line> {
-        if i >= MOST_LINES {
-            return None;
-        }
-        if i > 0 {
-            return self.below.line(i - 1);
-        }
-        Some(Line {
+        let own = Line {
             number: self.own.number,
             kind: Kind::Delay,
             order: self.own.ordered,
             delivery: self.own.delivered,
             held: self.in_transit(),
-        })
+        };
+        line_over(own, &self.below, i)
     }
 
     fn trial(&self, q: u64) -> Option<Fault> {

@@ -5,8 +5,8 @@ ghost use Rattle.stages.specs.Stages.{staged, stage_layout, own_shelf, bound_of}
 ghost use Rattle.stages.specs.StageLaws.{staged_sound, staged_shelved, staged_enveloped};
 
 use crate::stage::Staging;
-use layers::{lines_over, send};
-use supplier::{Fault, Kind, Line, MOST_LINES, Supplier};
+use layers::{line_over, lines_over, send};
+use supplier::{Fault, Kind, Line, Supplier};
 
 impl<S: Supplier> Supplier for Staging<S> {
     ghost meaning = { λ s. staged s.own (S.meaning s.below) };
@@ -40,20 +40,14 @@ impl<S: Supplier> Supplier for Staging<S> {
     }
 
     fn line(&self, i: usize) -> Option<Line> {
-        if i >= MOST_LINES {
-            return None;
-        }
-        if i > 0 {
-            return self.below.line(i - 1);
-        }
-        let order = self.own.ledger.book.due(1, 0).unwrap_or(0);
-        Some(Line {
+        let own = Line {
             number: self.own.ledger.number,
             kind: Kind::Stage,
-            order,
+            order: self.own.ledger.book.due(1, 0).unwrap_or(0),
             delivery: self.own.delivered,
             held: self.own.shelf,
-        })
+        };
+        line_over(own, &self.below, i)
     }
 
     fn trial(&self, q: u64) -> Option<Fault> {
