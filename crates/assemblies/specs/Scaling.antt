@@ -27,6 +27,7 @@ get-times c (x ∷ xs) (suc j) = get-times c xs j
 pub entered-times : (c q : ℕ) (xs : List ℕ) → entered (c * q) (times c xs) ≡ times c (entered q xs)
 entered-times c q xs = take-map (λ x. c * x) horizon (q ∷ xs)
 
+-- so many kits as a share of a limit need no more than the limit
 under : (c n x : ℕ) → x ≤ n / c → c * x ≤ n
 under c n x h =
     let d = div-mul-le_self n c in
