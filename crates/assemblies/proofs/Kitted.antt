@@ -83,16 +83,18 @@ side_new m c own sound new unused none = record {
   together = new ∙ sym unused;
 }
 
+none_wait : (c upto from : ℕ) (own : Kits) → orders_of own.orders ≡ no_orders → 0 ≡ c * span upto from (orders_of own.orders)
+none_wait c upto from own none =
+    sym (ap (λ xs. c * span upto from xs) none ∙ ap (λ n. c * n) (zeros_total horizon upto (from - upto)) ∙ mul-zero c)
+
 pub joined_new : (left right : Meaning) (number a b : ℕ) (own : Kits) → Sound left → Sound right →
     (left.service.days ≡ 0) × (right.service.days ≡ 0) → Unkitted number a b own → Joined left right own
 joined_new left right number a b own sl sr (nl, nr) e =
-    let none = e.none in
-    let z = λ (upto from : ℕ). ap (λ xs. span upto from xs) none ∙ zeros_total horizon upto (from - upto) in
     let early = left.service.quote in
     let late = right.service.quote in
     record {
-      left_side = side_new left own.left.per_kit own sl nl e.unused none;
-      right_side = side_new right own.right.per_kit own sr nr e.unused none;
-      left_waits = e.left_waits ∙ sym (ap (λ n. own.left.per_kit * n) (z early (max early late)) ∙ mul-zero own.left.per_kit);
-      right_waits = e.right_waits ∙ sym (ap (λ n. own.right.per_kit * n) (z late (max early late)) ∙ mul-zero own.right.per_kit);
+      left_side = side_new left own.left.per_kit own sl nl e.unused e.none;
+      right_side = side_new right own.right.per_kit own sr nr e.unused e.none;
+      left_waits = e.left_waits ∙ none_wait own.left.per_kit early (max early late) own e.none;
+      right_waits = e.right_waits ∙ none_wait own.right.per_kit late (max early late) own e.none;
     }

@@ -6,17 +6,18 @@ use Rattle.supplier.specs.Orders.{term, entered, due}
 use Rattle.supplier.specs.Books.{orders_of}
 use Rattle.supplier.specs.Meaning.{Meaning, Sound, Layout, Laid, Taken, Day}
 use Rattle.layers.specs.Sheets.{topped}
+use Rattle.assemblies.specs.declared.part.Part.{Part}
 use Rattle.assemblies.specs.declared.kits.Kits.{Kits}
-use Rattle.assemblies.specs.Assemblies.{times, shared, assembly_line, assembly_layout, assembled, joined, Joined}
-use Rattle.assemblies.specs.Kitting.{Assembled}
-use Rattle.assemblies.specs.Scaling.{get-times, entered-times, shared-left, shared-right}
-use Rattle.assemblies.specs.Joining.{kits_free}
+use Rattle.assemblies.specs.Assemblies.{times, shared, assembly_line, assembly_layout, assembled, joined, Side, Joined}
+use Rattle.assemblies.specs.Kitting.{Kept, Assembled}
+use Rattle.assemblies.specs.Scaling.{get-times, entered-times}
+use Rattle.assemblies.specs.Joining.{fed_left, fed_right, kits_free}
 use Rattle.assemblies.specs.Scaled.{laid_joined}
 use Rattle.assemblies.proofs.Kitted.{top_small, whole, wait_step, assembly_line_step}
 
 -- what a side that is sent an order answers, unless it refuses
-abbrev pub Answers : Layout → ℕ → ℕ → Meaning → Meaning → Type 0
-Answers lays x received before after =
+abbrev pub Accepts : Layout → ℕ → ℕ → Meaning → Meaning → Type 0
+Accepts lays x received before after =
     before.service.refusal x ≡ None →
     (received ≡ due before.service.quote before.service.book x) × Taken before.service x after.service × Laid (lays (x ∷ before.service.book)) after.sheet
 
@@ -30,7 +31,7 @@ pub record Sent (lays : Layout) (c q received : ℕ) (orders : List ℕ) (before
   pub laid : Laid (lays (times c (q ∷ orders))) after.sheet
 
 side_sent : (lays : Layout) (c q x received : ℕ) (orders : List ℕ) (before after : Meaning) → c ≤ 100 → q ≤ most → x ≡ min (c * q) (2 ^ 64 - 1) →
-    before.service.book ≡ times c orders → before.service.refusal (c * q) ≡ None → Answers lays x received before after →
+    before.service.book ≡ times c orders → before.service.refusal (c * q) ≡ None → Accepts lays x received before after →
     Sent lays c q received orders before after
 side_sent lays c q x received orders before after few little cut same free answers =
     let e = whole c q x few little cut in
@@ -53,20 +54,18 @@ pub record Served (ll rl : Layout) (own : Kits) (q from-left from-right delivery
   pub right_sent : Sent rl own.right.per_kit q from-right (orders_of own.orders) right right'
   pub delivered : delivery ≡ due (max left.service.quote right.service.quote) (orders_of own.orders) q
 
-pub served : (ll rl : Layout) (own : Kits) (q x y quote from-left from-right delivery : ℕ) (told : Option ℕ) (left right left' right' : Meaning) →
+pub served : (ll rl : Layout) {own : Kits} {q x y quote from-left from-right delivery : ℕ} {told : Option ℕ} {left right left' right' : Meaning} →
     Joined left right own → Sound left → Sound right → None ≡ (assembled own left right).service.refusal q →
-    x ≡ min (own.left.per_kit * q) (2 ^ 64 - 1) → Answers ll x from-left left left' → y ≡ min (own.right.per_kit * q) (2 ^ 64 - 1) → Answers rl y from-right right right' →
+    x ≡ min (own.left.per_kit * q) (2 ^ 64 - 1) → Accepts ll x from-left left left' → y ≡ min (own.right.per_kit * q) (2 ^ 64 - 1) → Accepts rl y from-right right right' →
     quote ≡ max left.service.quote right.service.quote → told ≡ near quote (due quote (orders_of own.orders) q) → delivery ≡ unwrap_or told 0 →
     Served ll rl own q from-left from-right delivery left right left' right'
-served ll rl own q x y quote from-left from-right delivery told left right left' right' tied ls rs free xe la ye ra qe te de =
+served ll rl {own} {q} {x} {y} {quote} {from-left} {from-right} {delivery} {told} {left} {right} {left'} {right'} tied ls rs free xe la ye ra qe te de =
     let orders = orders_of own.orders in
     let L = left.service in
     let R = right.service in
     let f =
     kits_free own.number own.left.per_kit own.right.per_kit own.days orders L R own.left.some own.right.some
-    (record { allows = shared-left L.limit R.limit own.left.per_kit own.right.per_kit; same = tied.left_side.same; together = tied.left_side.together })
-    (record { allows = shared-right L.limit R.limit own.left.per_kit own.right.per_kit; same = tied.right_side.same; together = tied.right_side.together })
-    q own.until (sym free) in
+    (fed_left tied) (fed_right tied) q own.until (sym free) in
     let small : q ≤ most = let t = f.top in let s = top_small own L R ls.service in omega arith in
     let by : max L.quote R.quote ≤ horizon = let a = ls.service.near in let b = rs.service.near in omega arith in
     record {
@@ -82,29 +81,31 @@ served ll rl own q x y quote from-left from-right delivery told left right left'
 module _ {ll rl : Layout} {own own' : Kits} {q from-left from-right delivery : ℕ} {left right left' right' : Meaning}
     (tied : Joined left right own) (s : Served ll rl own q from-left from-right delivery left right left' right')
     (kit : Assembled own q from-left from-right delivery own') where
+  side_step : {lays : Layout} {c c' received : ℕ} {before after : Meaning} → c' ≡ c → Side before c (orders_of own.orders) own.days →
+      Sent lays c q received (orders_of own.orders) before after → Side after c' (orders_of own'.orders) own'.days
+  side_step e side sent = record {
+    same = sent.book ∙ (λ i. times (sym e i) (sym (kit.orders s.little) i));
+    together = sent.days ∙ ap (λ n. n + 1) side.together ∙ sym (kit.days s.early);
+  }
+
+  waits_step : {lays : Layout} {part part' : Part} {received : ℕ} {before after : Meaning} → before.service.quote ≤ max left.service.quote right.service.quote →
+      part.waiting ≡ part.per_kit * span before.service.quote (max left.service.quote right.service.quote) (orders_of own.orders) →
+      Sent lays part.per_kit q received (orders_of own.orders) before after → Kept part received delivery part' →
+      part'.waiting ≡ part'.per_kit * span after.service.quote (max left'.service.quote right'.service.quote) (orders_of own'.orders)
+  waits_step {part = part} {received = received} {before = before} early waits sent kept =
+      let w =
+      wait_step part.per_kit before.service.quote (max left.service.quote right.service.quote) q part.waiting received delivery own.orders
+      part.few early s.close s.little waits sent.received_due s.delivered in
+      kept.waiting w.1 w.0 ∙ w.2
+      ∙ (λ i. sym kept.per_kit i * span (sym sent.quote i) (max (sym s.left_sent.quote i) (sym s.right_sent.quote i)) (sym (kit.orders s.little) i))
+
   pub joined_step : Joined left' right' own'
-  joined_step =
-      let L = left.service in
-      let R = right.service in
-      let ls = s.left_sent in
-      let rs = s.right_sent in
-      let late = max L.quote R.quote in
-      let ordered = kit.orders s.little in
-      let days = kit.days s.early in
-      let l = wait_step own.left.per_kit L.quote late q own.left.waiting from-left delivery own.orders own.left.few (omega arith) s.close s.little tied.left_waits ls.received_due s.delivered in
-      let r = wait_step own.right.per_kit R.quote late q own.right.waiting from-right delivery own.orders own.right.few (omega arith) s.close s.little tied.right_waits rs.received_due s.delivered in
-      record {
-        left_side = record {
-          same = ls.book ∙ (λ i. times (sym kit.left.per_kit i) (sym ordered i));
-          together = ls.days ∙ ap (λ n. n + 1) tied.left_side.together ∙ sym days;
-        };
-        right_side = record {
-          same = rs.book ∙ (λ i. times (sym kit.right.per_kit i) (sym ordered i));
-          together = rs.days ∙ ap (λ n. n + 1) tied.right_side.together ∙ sym days;
-        };
-        left_waits = kit.left.waiting l.1 l.0 ∙ l.2 ∙ (λ i. sym kit.left.per_kit i * span (sym ls.quote i) (max (sym ls.quote i) (sym rs.quote i)) (sym ordered i));
-        right_waits = kit.right.waiting r.1 r.0 ∙ r.2 ∙ (λ i. sym kit.right.per_kit i * span (sym rs.quote i) (max (sym ls.quote i) (sym rs.quote i)) (sym ordered i));
-      }
+  joined_step = record {
+    left_side = side_step kit.left.per_kit tied.left_side s.left_sent;
+    right_side = side_step kit.right.per_kit tied.right_side s.right_sent;
+    left_waits = waits_step (omega arith) tied.left_waits s.left_sent kit.left;
+    right_waits = waits_step (omega arith) tied.right_waits s.right_sent kit.right;
+  }
 
   pub day_answers : None ≡ (assembled own left right).service.refusal q →
       Day (assembly_layout own.number own.left.per_kit own.right.per_kit left.service.quote right.service.quote ll rl) (assembled own left right) q (Ok delivery) (assembled own' left' right')

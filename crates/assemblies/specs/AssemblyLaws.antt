@@ -12,7 +12,7 @@ use Rattle.layers.proofs.Topped.{sound-topped}
 use Rattle.assemblies.specs.declared.kits.Kits.{Kits}
 use Rattle.assemblies.specs.Assemblies.{assembled, scaled, Joined, shared}
 use Rattle.assemblies.specs.Scaling.{get-times, shared-left, shared-right, shared-grows, shared-small}
-use Rattle.assemblies.specs.Joining.{kits_refused, none_of}
+use Rattle.assemblies.specs.Joining.{fed_left, fed_right, kits_refused, none_of}
 use Rattle.assemblies.specs.Scaled.{shelves-scaled, left_line, right_line}
 
 pub assembled_sound : (own : Kits) (left right : Meaning) → Joined left right own → Sound left → Sound right →
@@ -34,9 +34,7 @@ assembled_sound own left right v sl sr =
           (sym (get-times own.left.per_kit orders j) ∙ ap (λ xs. slice_index xs j) (sym v.left_side.same) ∙ ls.before j (let e = v.left_side.together in omega arith));
       refusals = λ q.
           kits_refused own.number own.left.per_kit own.right.per_kit own.days orders left.service right.service own.left.some own.right.some
-          (record { allows = shared-left L R own.left.per_kit own.right.per_kit; same = v.left_side.same; together = v.left_side.together })
-          (record { allows = shared-right L R own.left.per_kit own.right.per_kit; same = v.right_side.same; together = v.right_side.together })
-          q own.until (ls.refusals (own.left.per_kit * q)) (rs.refusals (own.right.per_kit * q));
+          (fed_left v) (fed_right v) q own.until (ls.refusals (own.left.per_kit * q)) (rs.refusals (own.right.per_kit * q));
     })
 
 -- so many kits need no more of a side than it allows

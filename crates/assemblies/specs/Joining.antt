@@ -7,17 +7,36 @@ use Rattle.supplier.specs.declared.fault.Cause.{Cause}
 use Rattle.supplier.specs.declared.fault.Cause.TheVariants.{TermSpent, OverDay, OverWindow}
 use Rattle.supplier.specs.declared.fault.Fault.{Fault}
 use Rattle.supplier.specs.Orders.{term}
+use Rattle.supplier.specs.Books.{orders_of}
 use Rattle.supplier.specs.Finders.{fault}
-use Rattle.supplier.specs.Meaning.{most_layers, Service, Refused, Caused}
+use Rattle.supplier.specs.Meaning.{most_layers, Service, Meaning, Refused, Caused}
 use Rattle.layers.specs.Carrying.{carried, carries}
-use Rattle.assemblies.specs.Assemblies.{times, shared, either, kits_refusal, assembled_service}
-use Rattle.assemblies.specs.Scaling.{window-times, shared-above}
+use Rattle.assemblies.specs.declared.kits.Kits.{Kits}
+use Rattle.assemblies.specs.Assemblies.{times, shared, either, kits_refusal, assembled_service, Joined}
+use Rattle.assemblies.specs.Scaling.{window-times, shared-left, shared-right, shared-above}
 
--- one side of an assembly with this limit and these orders
+-- a supplier that feeds one side of an assembly with this limit and these orders
 pub record Feeds (c : ℕ) (limit : ℕ → ℕ) (days : ℕ) (orders : List ℕ) (s : Service) : Type 0 where
   pub allows : (k : ℕ) → c * limit k ≤ s.limit k
   pub same : s.book ≡ times c orders
   pub together : s.days ≡ days
+
+-- what ties an assembly to its two sides makes them feed it
+pub fed_left : {left right : Meaning} {own : Kits} → Joined left right own →
+    Feeds own.left.per_kit (shared left.service.limit right.service.limit own.left.per_kit own.right.per_kit) own.days (orders_of own.orders) left.service
+fed_left {left} {right} {own} v = record {
+  allows = shared-left left.service.limit right.service.limit own.left.per_kit own.right.per_kit;
+  same = v.left_side.same;
+  together = v.left_side.together;
+}
+
+pub fed_right : {left right : Meaning} {own : Kits} → Joined left right own →
+    Feeds own.right.per_kit (shared left.service.limit right.service.limit own.left.per_kit own.right.per_kit) own.days (orders_of own.orders) right.service
+fed_right {left} {right} {own} v = record {
+  allows = shared-right left.service.limit right.service.limit own.left.per_kit own.right.per_kit;
+  same = v.right_side.same;
+  together = v.right_side.together;
+}
 
 -- the windows of a side
 side_window : (c : ℕ) (limit : ℕ → ℕ) (days : ℕ) (orders : List ℕ) (s : Service) → Feeds c limit days orders s → (q k : ℕ) →

@@ -27,20 +27,20 @@ get-times c (x ∷ xs) (suc j) = get-times c xs j
 pub entered-times : (c q : ℕ) (xs : List ℕ) → entered (c * q) (times c xs) ≡ times c (entered q xs)
 entered-times c q xs = take-map (λ x. c * x) horizon (q ∷ xs)
 
--- what both limits allow, each side allows
-pub shared-left : (left right : ℕ → ℕ) (a b k : ℕ) → a * shared left right a b k ≤ left k
-shared-left left right a b k =
-    let d = div-mul-le_self (left k) a in
-    let m : a * shared left right a b k ≤ a * (left k / a) = mul-le-mul_left a (let x : shared left right a b k ≤ left k / a = omega arith in x) in
-    let e = mul_comm (left k / a) a in
+-- so many kits as a share of a limit need no more than the limit
+under : (c n x : ℕ) → x ≤ n / c → c * x ≤ n
+under c n x h =
+    let d = div-mul-le_self n c in
+    let m : c * x ≤ c * (n / c) = mul-le-mul_left c h in
+    let e = mul_comm (n / c) c in
     omega arith
 
+-- what both limits allow, each side allows
+pub shared-left : (left right : ℕ → ℕ) (a b k : ℕ) → a * shared left right a b k ≤ left k
+shared-left left right a b k = under a (left k) (shared left right a b k) (omega arith)
+
 pub shared-right : (left right : ℕ → ℕ) (a b k : ℕ) → b * shared left right a b k ≤ right k
-shared-right left right a b k =
-    let d = div-mul-le_self (right k) b in
-    let m : b * shared left right a b k ≤ b * (right k / b) = mul-le-mul_left b (let x : shared left right a b k ≤ right k / b = omega arith in x) in
-    let e = mul_comm (right k / b) b in
-    omega arith
+shared-right left right a b k = under b (right k) (shared left right a b k) (omega arith)
 
 -- and what each side allows, both allow
 pub shared-above : (left right : ℕ → ℕ) (a b k n : ℕ) → 1 ≤ a → 1 ≤ b → a * n ≤ left k → b * n ≤ right k → n ≤ shared left right a b k

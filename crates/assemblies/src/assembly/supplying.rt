@@ -76,6 +76,7 @@ impl<L: Supplier, R: Supplier> Supplier for Assembling<L, R> {
             };
             return Some(Fault::over(self.own.number, self.own.days + 1, broken));
         }
+        // `carry` by its name alone, as a function of another crate, gets no proof.
         self.left
             .trial(self.own.left.wanted(q))
             .or_else(|| self.right.trial(self.own.right.wanted(q)))
@@ -87,6 +88,7 @@ impl<L: Supplier, R: Supplier> Supplier for Assembling<L, R> {
             return Err(fault);
         }
         let due = self.own.orders.due(self.quote(), q).unwrap_or(0);
+        // Read first: to the proof, a loan of a part after a side has changed makes `self.own` another value.
         let left = self.own.left.wanted(q);
         let right = self.own.right.wanted(q);
         let from_left = send(&mut self.left, left);

@@ -8,10 +8,9 @@ invariant_of-self g c =
     let s = c.args.self.now in
     record {
       joined = joined_step s.joined
-          (served (g.L.Supplier.layout s.left) (g.R.Supplier.layout s.right) s.own c.args.q _ _ c.quote.result c.send-from_left.result c.send-from_right.result c.unwrap_or-due.result _
-          (g.L.Supplier.meaning s.left) (g.R.Supplier.meaning s.right) (g.L.Supplier.meaning c.send-from_left.new.below) (g.R.Supplier.meaning c.send-from_right.new.below)
-          s.joined (g.met.L.Supplier.sound s.left) (g.met.R.Supplier.sound s.right) c.in_default.ensures
-          c.wanted-left.ensures c.send-from_left.ensures.taken c.wanted-right.ensures c.send-from_right.ensures.taken c.quote.ensures c.due.ensures c.unwrap_or-due.ensures)
+          (served (g.L.Supplier.layout s.left) (g.R.Supplier.layout s.right) s.joined (g.met.L.Supplier.sound s.left) (g.met.R.Supplier.sound s.right)
+          c.in_default.ensures c.wanted-left.ensures c.send-from_left.ensures.taken c.wanted-right.ensures c.send-from_right.ensures.taken
+          c.quote.ensures c.due.ensures c.unwrap_or-due.ensures)
           c.assemble.ensures;
     }
 
@@ -19,10 +18,9 @@ pub returns-clause-answers : goal.returns-clause-answers
 returns-clause-answers g c =
     let s = c.args.self.now in
     day_answers s.joined
-    (served (g.L.Supplier.layout s.left) (g.R.Supplier.layout s.right) s.own c.args.q _ _ c.quote.result c.send-from_left.result c.send-from_right.result c.unwrap_or-due.result _
-    (g.L.Supplier.meaning s.left) (g.R.Supplier.meaning s.right) (g.L.Supplier.meaning c.send-from_left.new.below) (g.R.Supplier.meaning c.send-from_right.new.below)
-    s.joined (g.met.L.Supplier.sound s.left) (g.met.R.Supplier.sound s.right) c.in_default.ensures
-    c.wanted-left.ensures c.send-from_left.ensures.taken c.wanted-right.ensures c.send-from_right.ensures.taken c.quote.ensures c.due.ensures c.unwrap_or-due.ensures)
+    (served (g.L.Supplier.layout s.left) (g.R.Supplier.layout s.right) s.joined (g.met.L.Supplier.sound s.left) (g.met.R.Supplier.sound s.right)
+    c.in_default.ensures c.wanted-left.ensures c.send-from_left.ensures.taken c.wanted-right.ensures c.send-from_right.ensures.taken
+    c.quote.ensures c.due.ensures c.unwrap_or-due.ensures)
     c.assemble.ensures c.in_default.ensures
 
 pub returns-clause-stocks : goal.returns-clause-stocks
