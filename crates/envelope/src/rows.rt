@@ -7,7 +7,7 @@ ghost use Rattle.envelope.specs.Tables.{Torn, Breaks, Bounded, Unbroken, FirstBr
 
 use figures::HORIZON;
 
-/// The bound of `k` days, 0 of none.
+/// The bound of `k` days, 0 of none. A type for days within the horizon would have to be opened at every place.
 pub(crate) fn row(bounds: &[u64; HORIZON], k: usize) -> u64
     requires { k ≤ horizon }
     ensures { result ≡ for_days bounds.now k }

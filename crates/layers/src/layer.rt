@@ -10,6 +10,7 @@ use supplier::{Fault, Line, Supplier};
 use vendors::Idle;
 
 /// `W` works over what is below; `B` is what an idle layer holds and never calls.
+/// Not a `Result`: an idle layer is no failure, and it is a supplier as the other is.
 #[derive(Drop)]
 pub enum Layer<W: Supplier, B> {
     Working(W),
@@ -34,6 +35,7 @@ impl<W: Supplier, B> Supplier for Layer<W, B> {
 
     ghost enveloped = { elim [ Working w ↦ W.Supplier.enveloped w | Idle i b ↦ tt ] };
 
+    // Two arms a method: a `dyn Supplier` may not be handed out, and a macro would only hide them.
     fn quote(&self) -> u8 {
         match self {
             Layer::Working(working) => working.quote(),

@@ -16,6 +16,7 @@ fn answer<S: Supplier>(supplier: &mut S, call: Call) -> Event
     ensures lays { S.layout supplier.new ≡ S.layout supplier.old }
     ensures stocks { figures_of (S.shelves supplier.new) ≡ figures_of (S.shelves supplier.old) }
 {
+    // A call is told with its answer, which a closure could not be.
     match call {
         Call::Trial(q) => Event::Trial(q, supplier.trial(q)),
         Call::Day(q) => Event::Day(q, supplier.day(q)),

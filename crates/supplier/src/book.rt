@@ -9,6 +9,7 @@ pub mod entries;
 
 /// The orders of the last days taken, as many as the horizon has days; 0 before day 1.
 /// They lie in a ring: the newest at `newest`, the one before it at the next place, and round to the start.
+/// The ring is an array of its own, since a book uses no heap, and the library's ring lies on it.
 #[derive(Drop)]
 pub struct Book {
     ring: [u64; HORIZON],

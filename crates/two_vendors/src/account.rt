@@ -7,6 +7,7 @@ ghost use Rattle.two_vendors.specs.Balance.{Balanced, Counted};
 use supplier::{Fault, Supplier};
 
 /// A supplier with the pieces ordered of it and delivered by it since the account was opened.
+/// That it balances is not of its type: one may be opened of a supplier that has taken days, and then it does not.
 #[derive(Drop)]
 pub struct Account<S: Supplier> {
     pub supplier: S,

@@ -51,6 +51,7 @@ impl<L: Supplier, R: Supplier> Assembling<L, R> {
         ensures ranged { IfNone result (AllIn assembly_ranges (number ∷ a ∷ b ∷ [])) }
         ensures asked { AssemblyAsked (L.meaning left.now) (R.meaning right.now) number a b result }
     {
+        // One test after the other, each with its refusal: a chain of `or_else` says no more.
         if let Some(refusal) = range_refusal(&[number, a, b], &RANGES) {
             return Some(refusal);
         }

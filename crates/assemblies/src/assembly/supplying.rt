@@ -41,6 +41,7 @@ impl<L: Supplier, R: Supplier> Supplier for Assembling<L, R> {
     }
 
     fn line(&self, i: usize) -> Option<Line> {
+        // Two suppliers lie below, so `line_over`, which tells the lines of one, does not serve.
         if i >= MOST_LINES {
             return None;
         }
@@ -84,6 +85,7 @@ impl<L: Supplier, R: Supplier> Supplier for Assembling<L, R> {
     }
 
     fn day(&mut self, q: u64) -> Result<u64, Fault> {
+        // A fault found by the trial is an error here alone, so no `?` takes it.
         if let Some(fault) = self.trial(q) {
             return Err(fault);
         }

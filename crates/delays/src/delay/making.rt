@@ -44,6 +44,7 @@ impl<S: Supplier> Delaying<S> {
         ensures ranged { IfNone result (AllIn delay_ranges (number ∷ delay ∷ [])) }
         ensures asked { DelayAsked (S.meaning below.now) number delay result }
     {
+        // One test after the other, each with its refusal: a chain of `or_else` says no more.
         if let Some(refusal) = range_refusal(&[number, delay], &RANGES) {
             return Some(refusal);
         }

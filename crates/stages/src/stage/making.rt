@@ -52,6 +52,7 @@ fn stocked(number: u16, limits: Limits, process: u8, quote: u8, base: u64) -> St
     }
 }
 
+// The figures stand in this order in a file's record too; a struct of them would be a second name for that record.
 impl<S: Supplier> Staging<S> {
     /// The refusal of a stage with these figures and this envelope over this supplier, or none.
     pub fn question<E: Envelope>(
@@ -65,6 +66,7 @@ impl<S: Supplier> Staging<S> {
         ensures ranged { IfNone result (AllIn stage_ranges (number ∷ process ∷ quote ∷ base ∷ [])) }
         ensures asked { StageAsked (S.meaning below.now) (E.meaning envelope.now).bound number process quote base result }
     {
+        // One test after the other, each with its refusal: a chain of `or_else` says no more.
         if let Some(refusal) = range_refusal(&[number, process, quote, base], &RANGES) {
             return Some(refusal);
         }

@@ -29,6 +29,7 @@ impl Book {
 
     /// Takes an order: it becomes the newest, and the oldest is forgotten.
     /// An order above the most pieces is not taken, and changes nothing.
+    /// A yes or no with no value beside it: a `Result` of nothing and nothing would say no more.
     pub fn take(&mut self, q: u64) -> bool
         ensures answer { result ≡ nat_le q most }
         ensures after { orders_of self.new ≡ (if result then entered q (orders_of self.old) else orders_of self.old) }

@@ -37,6 +37,7 @@ impl Ledger {
     pub fn take(&mut self, q: u64) -> Result<(), Fault>
         ensures { Entered self.old q result self.new }
     {
+        // A refusal found is an error here alone, so no `?` takes it.
         if let Some(refused) = self.refusal(q) {
             return Err(refused);
         }

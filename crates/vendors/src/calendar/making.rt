@@ -35,6 +35,7 @@ impl Vendor<CalendarTerms> {
     pub fn new(number: u64, mask: u64, travel: u64, weekly: u64) -> Self
         ensures { Made number mask travel weekly result }
     {
+        // Two makings side by side: `is_none` and an `if` would say no more.
         match Calendar::question(number, mask, travel, weekly) {
             None => Vendor::opened(
                 kept_number(number),

@@ -36,6 +36,7 @@ impl Vendor<PipelineTerms> {
     pub fn new(number: u64, lead: u64, max: u64) -> Self
         ensures { Made number lead max result }
     {
+        // Two makings side by side: `is_none` and an `if` would say no more.
         let terms = match Pipeline::question(number, lead, max) {
             None => PipelineTerms {
                 lead: lead as u8,
