@@ -3,6 +3,7 @@ use Rattle.std.specs.Prelude.{◌≡◌, ℕ, zero, suc, ◌-◌, ◌*◌, ◌/�
 use Rattle.std.proofs.Common.{sym, ap, ◌∙◌, mul-zero, mul-add, mul_comm, div-mul-le_self, mul-le-mul_left, arith}
 use Rattle.std.proofs.lemmas.Nat.{le-div}
 use Rattle.std.proofs.lemmas.List.{take-map, drop-map}
+use Rattle.figures.proofs.Quotients.{div_grows}
 use Rattle.figures.specs.Days.{horizon, total, window, span}
 use Rattle.supplier.specs.Orders.{entered}
 use Rattle.assemblies.specs.Assemblies.{times, shared}
@@ -48,9 +49,6 @@ shared-above left right a b k n x y l r =
     let p = le-div n (left k) a x (let e = mul_comm n a in omega arith) in
     let q = le-div n (right k) b y (let e = mul_comm n b in omega arith) in
     omega arith
-
-div_grows : (x y k : ℕ) → 1 ≤ k → x ≤ y → x / k ≤ y / k
-div_grows x y k p h = le-div (x / k) y k p (let e = div-mul-le_self x k in omega arith)
 
 pub shared-grows : (left right : ℕ → ℕ) (a b k n : ℕ) → 1 ≤ a → 1 ≤ b → left k ≤ left n → right k ≤ right n → shared left right a b k ≤ shared left right a b n
 shared-grows left right a b k n x y l r =

@@ -27,6 +27,7 @@ pub struct Bucket {
     ghost unbroken: { (p : ℕ) → BelowMean peak mean p → ⊥ },
 }
 
+// The figures come one by one, as a file's record has them: a struct would be a second name for that record.
 impl Bucket {
     /// The refusal that these figures get, or none.
     pub fn question(peak: u64, burst: u64, mean: u64) -> Option<Refusal>

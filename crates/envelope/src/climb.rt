@@ -6,7 +6,7 @@ ghost use Rattle.envelope.specs.Climbs.{Climbs};
 use crate::envelope::Envelope;
 use figures::HORIZON;
 
-/// The bound of `k` days, where `k` is at most the horizon.
+/// The bound of `k` days, where `k` is at most the horizon. A type for such days would have to be opened at every place.
 fn near<E: Envelope>(e: &E, k: usize) -> u64
     requires { k ≤ horizon }
     ensures { result ≡ (E.meaning e.now).bound k }

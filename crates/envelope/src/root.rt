@@ -33,6 +33,7 @@ pub struct Root {
     ghost within: { AllIn root_ranges (mean ∷ w ∷ []) },
 }
 
+// The figures come one by one, as a file's record has them: a struct would be a second name for that record.
 impl Root {
     /// The refusal that these figures get, or none.
     pub fn question(mean: u64, w: u64) -> Option<Refusal>

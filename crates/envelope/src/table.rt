@@ -26,6 +26,7 @@ pub struct Table {
     ghost unbroken: { (p : ℕ) → BrokenAt mean bounds p → ⊥ },
 }
 
+// The figures come one by one, as a file's record has them: a struct would be a second name for that record.
 impl Table {
     /// The refusal that these figures get, or none.
     pub fn question(mean: u64, bounds: [u64; HORIZON]) -> Option<Refusal>

@@ -1,4 +1,5 @@
 pub mod Answered
 pub mod Least
 pub mod Totals
+pub mod Quotients
 pub mod Arrays

@@ -1,7 +1,10 @@
 -- Sums over parts of a list of amounts, of any length.
-use Rattle.std.proofs.Common.{◌≡◌, ℕ, zero, suc, ◌+◌, ◌-◌, ◌*◌, ◌<◌, ◌≤◌, ltb, List, [], ◌∷◌, length, get_or, take, drop, replicate, Some, None, unwrap_or, sym, refl, ap, ◌∙◌, zero-le, zero-add, mul-suc, add-one, arith}
+use Rattle.std.proofs.Common.{◌≡◌, ℕ, zero, suc, ◌+◌, ◌-◌, ◌*◌, ◌<◌, ◌≤◌, ltb, List, [], ◌∷◌, length, get_or, take, drop, replicate, Some, None, unwrap_or, sym, refl, ap, ◌∙◌, zero-le, zero-add, add-zero, mul-suc, add-one, arith}
 use Rattle.std.proofs.lemmas.Bool.{cond-false, le-ltb}
-use Rattle.std.proofs.lemmas.List.{take-take, drop-take, drop-replicate, length-take}
+use Rattle.std.proofs.lemmas.List.{take-take, drop-take, drop-drop, get_or-drop, drop-replicate, length-take}
+use Rattle.std.specs.Prelude.{sum_by}
+use Rattle.std.proofs.lemmas.List.Sums.{sum_by-cons}
+use Rattle.std.specs.List.{range_with_len}
 use Rattle.figures.specs.Days.{horizon, near, total, window, span, pushed}
 
 -- one more amount at the far end of a window
@@ -126,4 +129,15 @@ window_agree (suc n) xs ys h =
     let b = window-suc n ys in
     let c = h n (omega arith) in
     let d = window_agree n xs ys (λ j l. h j (omega arith)) in
+    omega arith
+
+-- amounts read one by one from the place a on are a part of the list
+pub read_on : (xs : List ℕ) (a n : ℕ) → sum_by (λ j. get_or xs j 0) (range_with_len a n) ≡ total (take n (drop a xs))
+read_on xs a zero = refl
+read_on xs a (suc n) =
+    let h = read_on xs (a + 1) n in
+    let first = window-first n (drop a xs) in
+    let here = get_or-drop a xs 0 0 ∙ ap (λ j. get_or xs j 0) (add-zero a) in
+    let on = ap (λ (ys : List ℕ). total (take n ys)) (drop-drop 1 a xs) in
+    let more = sum_by-cons (λ j. get_or xs j 0) a (range_with_len (a + 1) n) in
     omega arith

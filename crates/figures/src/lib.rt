@@ -8,5 +8,5 @@ mod refusals;
 
 pub use horizon::{HORIZON, MOST_PIECES, within_horizon};
 pub use questions::range_refusal;
-pub use ranges::{Range, first_out};
+pub use ranges::{DAYS, Range, first_out};
 pub use refusals::Refusal;

@@ -2,6 +2,8 @@
 ghost use Rattle.std.specs.Prelude.{MatchBool, MatchOption};
 ghost use Rattle.figures.specs.Ranges.{Within, AllIn, FirstOut};
 
+use crate::horizon::HORIZON;
+
 /// The figures that pass, from `low` to `high`.
 #[derive(Clone, Copy, PartialEq, Eq, Debug)]
 pub struct Range {
@@ -17,6 +19,12 @@ impl Range {
         self.low <= figure && figure <= self.high
     }
 }
+
+/// The range of days that the horizon reaches.
+pub const DAYS: Range = Range {
+    low: 0,
+    high: HORIZON as u64,
+};
 
 /// The place, counted from 1, of the first figure from the left that is outside its range, or none.
 /// A figure that has no range passes.

@@ -1,5 +1,5 @@
 -- A layer that its question refuses does not pass it, and is given resting.
-use Rattle.std.proofs.Common.{◌≡◌, ℕ, ◌-◌, true, List, Some, None, Option, arith}
+use Rattle.std.proofs.Common.{◌≡◌, ℕ, ◌-◌, true, false, sym, List, Some, None, Option, arith}
 use Rattle.std.specs.Option.{is_some}
 use Rattle.std.proofs.lemmas.Bool.{false≢true}
 use Rattle.figures.specs.declared.ranges.Range.{Range}
@@ -23,6 +23,10 @@ module _ (ranges : List Range) (figures : List ℕ) (Unused Fitting Under Stocke
   pub never_asked : (r : Option Refusal) → is_some r ≡ true → Asked ranges figures Unused Fitting Under Stocked r → Asked ranges figures Unused Fitting Under Stocked None → ⊥
   never_asked None e asked pass = absurd (false≢true e)
   never_asked (Some why) e asked pass = never_passes why asked pass
+
+  pub asked_none : (r : Option Refusal) → is_some r ≡ false → Asked ranges figures Unused Fitting Under Stocked r → Asked ranges figures Unused Fitting Under Stocked None
+  asked_none None e asked = asked
+  asked_none (Some why) e asked = absurd (false≢true (sym e))
 
 -- a layer whose question is refused is given resting
 pub given_resting : {W B : Type 0} (Passes : Type 0) (Works : W → Type 0) (kind : Kind) (number : ℕ) (below : B) (l : Layer W B) →

@@ -1,5 +1,6 @@
 // The lines of a layer's sheet: its own, and then those below.
-ghost use Rattle.std.specs.Prelude.{◌≡◌, ◌+◌, min};
+ghost use Rattle.std.specs.Prelude.{◌≡◌, ◌+◌, ◌≤◌, min, None};
+ghost use Rattle.supplier.specs.declared.line.Line.{Line as Row};
 ghost use Rattle.std.specs.List.{slice_get};
 ghost use Rattle.supplier.specs.Meaning.{most_lines};
 ghost use Rattle.layers.specs.Sheets.{topped};
@@ -13,15 +14,15 @@ pub fn lines_over(below: usize) -> usize
     below.saturating_add(1).min(MOST_LINES)
 }
 
-/// The line with i lines above it on the sheet of a layer over one supplier: the layer's own line is the first.
-pub fn line_over<S: Supplier>(own: Line, below: &S, i: usize) -> Option<Line>
-    ensures { result ≡ slice_get (topped own (S.meaning below.now).sheet) i }
+/// The line with i lines above it on the sheet of a layer over one supplier, where that is a line below the layer's own.
+pub fn line_below<S: Supplier>(below: &S, i: usize) -> Option<Line>
+    ensures none { i ≡ 0 → result ≡ None }
+    ensures told { (own : Row) → 1 ≤ i → result ≡ slice_get (topped own (S.meaning below.now).sheet) i }
 {
-    if i >= MOST_LINES {
-        return None;
-    }
-    match i.checked_sub(1) {
-        None => Some(own),
-        Some(place) => below.line(place),
+    let place = i.checked_sub(1)?;
+    if i < MOST_LINES {
+        below.line(place)
+    } else {
+        None
     }
 }

@@ -13,7 +13,7 @@ pub enum Call {
     Line(usize),
 }
 
-/// A call with its answer.
+/// A call with its answer, whose type is the call's own; so the cases of a call stand here again.
 #[derive(Clone, Copy)]
 pub enum Event {
     Trial(u64, Option<Fault>),

@@ -10,6 +10,10 @@ abbrev pub spaced : List ℕ → List (List ℕ) → List ℕ
 spaced w [] = w
 spaced w (v ∷ vs) = w ++ 32 ∷ spaced v vs
 
+-- the figures of a line: `number kind order delivery held`
+abbrev pub line_figures : Line → List ℕ
+line_figures l = spaced (decimal l.number) ((letter l.kind ∷ []) ∷ decimal l.order ∷ decimal l.delivery ∷ decimal l.held ∷ [])
+
 -- `LN day number kind order delivery held`
 abbrev pub line_text : ℕ → Line → List ℕ
 line_text day l =

@@ -3,4 +3,4 @@
 
 mod texts;
 
-pub use texts::{DayLine, RefusedDay};
+pub use texts::{DayLine, LineFigures, RefusedDay};

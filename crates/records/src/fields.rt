@@ -1,5 +1,5 @@
 // The fields of a record, one by one from the left.
-ghost use Rattle.std.specs.Prelude.{MatchResult};
+ghost use Rattle.std.specs.Prelude.{◌≡◌, length, MatchResult};
 ghost use Rattle.records.specs.Fields.{Filled, FaultyFields};
 
 use crate::cuts::cut;
@@ -17,10 +17,8 @@ pub(crate) struct Fields<'a> {
 
 impl<'a> Fields<'a> {
     /// The figures that the fields write, one for each range.
-    pub(crate) fn figures<const N: usize>(
-        self,
-        ranges: &[Range; N],
-    ) -> Result<[u64; N], RecordFault>
+    pub(crate) fn figures<const N: usize>(self, ranges: &[Range]) -> Result<[u64; N], RecordFault>
+        requires { length ranges.now ≡ N }
         ensures { MatchResult result (Filled ranges.now self.entry.text.now) (FaultyFields ranges.now self.entry.number self.entry.text.now) }
     {
         let mut figures = [0; N];

@@ -30,15 +30,13 @@ pub enum RecordKind {
 }
 
 /// The ranges of a stage's figures and of those of its root envelope.
-pub(crate) const ROOT_STAGE_RANGES: [Range; 6] = [NUMBERS, TIMES, TIMES, STOCKS, DAILY, SPREADS];
+const ROOT_STAGE_RANGES: [Range; 6] = [NUMBERS, TIMES, TIMES, STOCKS, DAILY, SPREADS];
 
 /// The ranges of a stage's figures and of those of its bucket envelope.
-pub(crate) const BUCKET_STAGE_RANGES: [Range; 7] = [
-    NUMBERS, TIMES, TIMES, STOCKS, DAILY, BURSTS, DAILY,
-];
+const BUCKET_STAGE_RANGES: [Range; 7] = [NUMBERS, TIMES, TIMES, STOCKS, DAILY, BURSTS, DAILY];
 
 /// An order has no range: every number is taken to the pile.
-pub(crate) const DAY_RANGES: [Range; 1] = [Range {
+const DAY_RANGES: [Range; 1] = [Range {
     low: 0,
     high: 9_999_999_999_999,
 }];
@@ -63,6 +61,7 @@ impl RecordKind {
     pub fn text_of(self, line: &[u8]) -> Option<&[u8]>
         ensures { MatchOption result (LacksMark self line.now) (λ text. TakenApart self line.now text.now) }
     {
+        // A slice pattern for each kind, by the project's rule for lines.
         match (self, line) {
             (RecordKind::Calendar, [b'V', b'C', b' ', text @ ..])
             | (RecordKind::Delay, [b'D', b'L', b' ', text @ ..])

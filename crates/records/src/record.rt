@@ -2,11 +2,8 @@
 ghost use Rattle.records.specs.Records.{ReadsBack, RecordRead, TextRead};
 
 use crate::fields::Fields;
-use crate::kind::{BUCKET_STAGE_RANGES, DAY_RANGES, ROOT_STAGE_RANGES, RecordKind};
+use crate::kind::RecordKind;
 use crate::record_fault::RecordFault;
-use assemblies::ASSEMBLY_RANGES;
-use delays::DELAY_RANGES;
-use vendors::{CALENDAR_RANGES, PIPELINE_RANGES};
 
 /// The figures of a record, in the order of its fields.
 #[derive(Clone, Copy)]
@@ -34,17 +31,16 @@ impl Record {
     fn from_fields(fields: Fields, kind: RecordKind) -> Result<Record, RecordFault>
         ensures { TextRead kind fields.entry.number fields.entry.text.now result }
     {
+        let ranges = kind.ranges();
         // An arm for each kind: their arrays have lengths, and so types, of their own.
         match kind {
-            RecordKind::Calendar => fields.figures(&CALENDAR_RANGES).map(Record::Calendar),
-            RecordKind::Delay => fields.figures(&DELAY_RANGES).map(Record::Delay),
-            RecordKind::Pipeline => fields.figures(&PIPELINE_RANGES).map(Record::Pipeline),
-            RecordKind::RootStage => fields.figures(&ROOT_STAGE_RANGES).map(Record::RootStage),
-            RecordKind::Assembly => fields.figures(&ASSEMBLY_RANGES).map(Record::Assembly),
-            RecordKind::BucketStage => fields
-                .figures(&BUCKET_STAGE_RANGES)
-                .map(Record::BucketStage),
-            RecordKind::Day => fields.figures(&DAY_RANGES).map(Record::Day),
+            RecordKind::Calendar => fields.figures(ranges).map(Record::Calendar),
+            RecordKind::Delay => fields.figures(ranges).map(Record::Delay),
+            RecordKind::Pipeline => fields.figures(ranges).map(Record::Pipeline),
+            RecordKind::RootStage => fields.figures(ranges).map(Record::RootStage),
+            RecordKind::Assembly => fields.figures(ranges).map(Record::Assembly),
+            RecordKind::BucketStage => fields.figures(ranges).map(Record::BucketStage),
+            RecordKind::Day => fields.figures(ranges).map(Record::Day),
         }
     }
 }

@@ -8,7 +8,8 @@ use figures::Range;
 
 /// A part of the line and its place.
 pub enum Word<'a> {
-    /// The mark of a record. `RecordKind::text_of` takes marks apart by their bytes, so no word of this kind is made here.
+    /// The mark of a record. By the project's rule a word is a mark, a number or junk, each with its part and its place;
+    /// `RecordKind::text_of` takes marks apart by their bytes, so no word of this kind is made here.
     Mark(&'a [u8], Place),
     /// A number.
     Number(&'a [u8], Place),

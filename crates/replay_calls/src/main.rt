@@ -11,7 +11,6 @@ use parsing::Asked;
 use pile::replay;
 use printing::Told;
 use stages::{Stage, Staging};
-use supplier::Supplier;
 use vendors::{Calendar, Pipeline};
 
 /// A stage over an assembly of a delayed calendar vendor and a stage over a pipeline vendor.

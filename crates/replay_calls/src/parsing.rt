@@ -14,6 +14,7 @@ impl FromStr for Asked {
             Some((name, figure)) => (name, figure.parse::<u64>()?),
             None => (line, 0),
         };
+        // The word is a text that is read: no step is chosen here, and a table of functions would say no more.
         let call = match name {
             "trial" => Call::Trial(figure),
             "day" => Call::Day(figure),

@@ -1,8 +1,7 @@
 // The printed form of calls and their answers.
 use pile::Event;
-use printed::RefusedDay;
+use printed::{LineFigures, RefusedDay};
 use std::fmt;
-use supplier::Line;
 
 /// A call with its answer, as it is printed.
 #[derive(Clone, Copy)]
@@ -21,24 +20,7 @@ impl fmt::Display for Told {
             Event::Days(days) => write!(f, "days: {days}"),
             Event::Lines(lines) => write!(f, "lines: {lines}"),
             Event::Line(i, None) => write!(f, "line {i}: none"),
-            Event::Line(i, Some(line)) => write!(f, "line {i}: {}", Figures(line)),
+            Event::Line(i, Some(line)) => write!(f, "line {i}: {}", LineFigures(line)),
         }
-    }
-}
-
-/// A line of the sheet, as it is printed: `number kind order delivery held`.
-#[derive(Clone, Copy)]
-struct Figures(Line);
-
-impl fmt::Display for Figures {
-    fn fmt<W: fmt::Write>(&self, f: &mut fmt::Formatter<W>) -> fmt::Result {
-        let Line {
-            number,
-            kind,
-            order,
-            delivery,
-            held,
-        } = self.0;
-        write!(f, "{number} {kind} {order} {delivery} {held}")
     }
 }

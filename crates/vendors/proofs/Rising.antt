@@ -1,14 +1,11 @@
 -- Limits that rise with each period begun are a table of limits.
-use Rattle.std.proofs.Common.{◌≡◌, ℕ, suc, ◌+◌, ◌-◌, ◌*◌, ◌/◌, ◌<◌, ◌≤◌, List, length, get_or, ap, ⊎_elim, mul-le-mul_left, div-mul-le_self, arith}
-use Rattle.std.proofs.lemmas.Nat.{le-div}
+use Rattle.std.proofs.Common.{◌≡◌, ℕ, suc, ◌+◌, ◌-◌, ◌*◌, ◌/◌, ◌<◌, ◌≤◌, List, length, get_or, ap, ⊎_elim, mul-le-mul_left, arith}
 use Rattle.std.proofs.lemmas.List.{get_or_past}
 use Rattle.std.proofs.lemmas.Bool.{cases_lt}
 use Rattle.figures.specs.Days.{horizon, most}
+use Rattle.figures.proofs.Quotients.{div_grows}
 use Rattle.supplier.specs.Limits.{High, Grows}
 use Rattle.vendors.specs.Periods.{periods, Rises}
-
-div_grows : (a b k : ℕ) → 0 < k → a ≤ b → a / k ≤ b / k
-div_grows a b k p h = le-div (a / k) b k p (let e = div-mul-le_self a k in omega arith)
 
 pub periods_grow : (period j k : ℕ) → 1 ≤ period → j ≤ k → periods period j ≤ periods period k
 periods_grow period j k p h = div_grows (j + (period - 1)) (k + (period - 1)) period (omega arith) (omega arith)

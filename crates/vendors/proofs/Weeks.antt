@@ -104,13 +104,6 @@ greatest_met f (suc n) = go (greatest_met f n)
         (λ (h : greatest f (suc n) ≤ f (suc n)). (suc n, omega arith, omega arith))
         (cases_lt (f (suc n)) (greatest f (suc n)))
 
-pub longest-short : (mask : ℕ) → 1 ≤ mask → mask ≤ 127 → longest mask < week
-unfolding longest
-longest-short mask a b =
-    let g = greatest_met (wait mask) 6 in
-    let w = (waits mask g.0 a b g.1).found.upto in
-    omega arith
-
 -- the quote is the travel and the longest wait, and not a day more
 pub timely : (mask travel : ℕ) → 1 ≤ mask → mask ≤ 127 → Timely mask travel (travel + longest mask)
 unfolding longest

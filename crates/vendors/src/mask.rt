@@ -15,8 +15,8 @@ pub struct Mask {
 
 impl Mask {
     /// The days that an order waits, so many days after a week began: the zeros below the lowest bit of the mask turned to that day.
-    pub(crate) fn wait(self, day: u32) -> u8
-        ensures wait { result ≡ wait self.bits (day % week) }
+    pub(crate) fn wait(&self, day: u32) -> u8
+        ensures wait { result ≡ wait self.now.bits (day % week) }
         ensures short { result < week }
     {
         let mask = u32::from(self.bits);
@@ -26,15 +26,10 @@ impl Mask {
     }
 
     /// The longest wait of any day of the week.
-    pub(crate) fn longest_wait(self) -> u8
-        ensures wait { result ≡ longest self.bits }
+    pub(crate) fn longest_wait(&self) -> u8
+        ensures wait { result ≡ longest self.now.bits }
         ensures short { result < week }
     {
-        // A chain that ends in `max` was tried: its proof did not reach what the closure gives.
-        let mut most = 0u8;
-        for weekday in 0..WEEK {
-            most = most.max(self.wait(weekday));
-        }
-        most
+        (0..WEEK).map(|day| self.wait(day)).max().unwrap_or(0)
     }
 }

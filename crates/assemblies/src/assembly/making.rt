@@ -3,7 +3,7 @@ ghost use Rattle.std.specs.Prelude.{◌≤◌, [], ◌∷◌, IfNone};
 ghost use Rattle.figures.specs.Ranges.{AllIn};
 ghost use Rattle.supplier.specs.Numbers.{named};
 ghost use Rattle.layers.specs.Makings.{Given};
-ghost use Rattle.assemblies.specs.AssemblyMaking.{assembly_ranges, AssemblyAsked, AssemblyPasses, AssemblyNew, Unkitted};
+ghost use Rattle.assemblies.specs.AssemblyMaking.{assembly_ranges, AssemblyAsked, AssemblyPasses, AssemblyNew};
 
 use crate::assembly::Assembling;
 use crate::kits::Kits;
@@ -21,30 +21,7 @@ const PARTS: Range = Range { low: 1, high: 100 };
 /// The ranges of the number and of the parts of both sides.
 pub const RANGES: [Range; 3] = [NUMBERS, PARTS, PARTS];
 
-/// The figures of an assembly before the first day.
-fn unkitted(number: u16, left: u64, right: u64) -> Kits
-    requires left_some { 1 ≤ left }
-    requires left_few { left ≤ 100 }
-    requires right_some { 1 ≤ right }
-    requires right_few { right ≤ 100 }
-    ensures { Unkitted number left right result }
-{
-    Kits {
-        number,
-        left: Part {
-            per_kit: left,
-            waiting: 0,
-        },
-        right: Part {
-            per_kit: right,
-            waiting: 0,
-        },
-        orders: Book::new(),
-        days: 0,
-        delivered: 0,
-    }
-}
-
+// The figures come one by one, as a file's record has them: a struct would be a second name for that record.
 impl<L: Supplier, R: Supplier> Assembling<L, R> {
     /// The refusal of kits of so many parts of these two suppliers, or none.
     pub fn question(left: &L, right: &R, number: u64, a: u64, b: u64) -> Option<Refusal>
@@ -69,7 +46,20 @@ impl<L: Supplier, R: Supplier> Assembling<L, R> {
         if Assembling::question(&left, &right, number, a, b).is_some() {
             return Layer::resting(number, Kind::Assembly, (left, right));
         }
-        let own = unkitted(kept_number(number), a, b);
+        let own = Kits {
+            number: kept_number(number),
+            left: Part {
+                per_kit: a,
+                waiting: 0,
+            },
+            right: Part {
+                per_kit: b,
+                waiting: 0,
+            },
+            orders: Book::new(),
+            days: 0,
+            delivered: 0,
+        };
         Layer::Working(Assembling { left, right, own })
     }
 }

@@ -52,13 +52,12 @@ impl<L: Supplier, R: Supplier> Supplier for Assembling<L, R> {
             }
             return self.right.line(i - 1 - left);
         }
-        let order = self.own.orders.due(1, 0).unwrap_or(0);
         let waiting = self.waiting();
         let held = waiting.left.saturating_add(waiting.right);
         Some(Line {
             number: self.own.number,
             kind: Kind::Assembly,
-            order,
+            order: self.own.orders.last(),
             delivery: self.own.delivered,
             held,
         })

@@ -8,7 +8,7 @@ ghost use Rattle.delays.specs.DelayMaking.{delay_ranges, DelayAsked, DelayPasses
 
 use crate::delay::Delaying;
 use crate::transit::Transit;
-use figures::{HORIZON, Range, Refusal, range_refusal};
+use figures::{DAYS, HORIZON, Range, Refusal, range_refusal};
 use layers::Layer;
 use supplier::{Book, Kind, NUMBERS, Supplier, kept_number};
 
@@ -16,13 +16,7 @@ use supplier::{Book, Kind, NUMBERS, Supplier, kept_number};
 pub type Delay<S> = Layer<Delaying<S>, S>;
 
 /// The ranges of the number and the days of a delay.
-pub const RANGES: [Range; 2] = [
-    NUMBERS,
-    Range {
-        low: 0,
-        high: HORIZON as u64,
-    },
-];
+pub const RANGES: [Range; 2] = [NUMBERS, DAYS];
 
 /// The figures of a delay over a supplier that has taken no day.
 fn fresh(number: u16, delay: u8) -> Transit
@@ -38,6 +32,7 @@ fn fresh(number: u16, delay: u8) -> Transit
     }
 }
 
+// The figures come one by one, as a file's record has them: a struct would be a second name for that record.
 impl<S: Supplier> Delaying<S> {
     /// The refusal of a delay of so many days over this supplier, or none.
     pub fn question(below: &S, number: u64, delay: u64) -> Option<Refusal>
@@ -51,7 +46,7 @@ impl<S: Supplier> Delaying<S> {
         if below.days() != 0 {
             return Some(Refusal::Started);
         }
-        if (below.quote() as u64).saturating_add(delay) > HORIZON as u64 {
+        if u64::from(below.quote()).saturating_add(delay) > HORIZON as u64 {
             return Some(Refusal::Misfit);
         }
         None

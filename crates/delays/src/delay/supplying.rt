@@ -5,7 +5,7 @@ ghost use Rattle.delays.specs.Delays.{delayed, delay_layout};
 ghost use Rattle.delays.specs.DelayLaws.{delayed_sound, delayed_shelved};
 
 use crate::delay::Delaying;
-use layers::{carry, line_over, lines_over};
+use layers::{carry, line_below, lines_over};
 use supplier::{Fault, Kind, Line, Supplier};
 
 impl<S: Supplier> Supplier for Delaying<S> {
@@ -38,14 +38,16 @@ impl<S: Supplier> Supplier for Delaying<S> {
     }
 
     fn line(&self, i: usize) -> Option<Line> {
-        let own = Line {
+        if i > 0 {
+            return line_below(&self.below, i);
+        }
+        Some(Line {
             number: self.own.number,
             kind: Kind::Delay,
             order: self.own.ordered,
             delivery: self.own.delivered,
             held: self.in_transit(),
-        };
-        line_over(own, &self.below, i)
+        })
     }
 
     fn trial(&self, q: u64) -> Option<Fault> {

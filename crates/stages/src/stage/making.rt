@@ -11,7 +11,7 @@ use crate::stage::Staging;
 use crate::stage::bounds::{copied, under};
 use crate::stock::Stock;
 use envelope::Envelope;
-use figures::{HORIZON, MOST_PIECES, Range, Refusal, range_refusal};
+use figures::{DAYS, HORIZON, MOST_PIECES, Range, Refusal, range_refusal};
 use layers::Layer;
 use supplier::{Book, Kind, Ledger, Limits, NUMBERS, Supplier, kept_number};
 
@@ -19,10 +19,7 @@ use supplier::{Book, Kind, Ledger, Limits, NUMBERS, Supplier, kept_number};
 pub type Stage<S> = Layer<Staging<S>, S>;
 
 /// The range of a stage's times.
-pub const TIMES: Range = Range {
-    low: 0,
-    high: HORIZON as u64,
-};
+pub const TIMES: Range = DAYS;
 
 /// The range of a base stock.
 pub const STOCKS: Range = Range {
@@ -52,7 +49,7 @@ fn stocked(number: u16, limits: Limits, process: u8, quote: u8, base: u64) -> St
     }
 }
 
-// The figures stand in this order in a file's record too; a struct of them would be a second name for that record.
+// The figures come one by one, as a file's record has them: a struct would be a second name for that record.
 impl<S: Supplier> Staging<S> {
     /// The refusal of a stage with these figures and this envelope over this supplier, or none.
     pub fn question<E: Envelope>(

@@ -5,7 +5,7 @@ ghost use Rattle.stages.specs.Stages.{staged, stage_layout, own_shelf, bound_of}
 ghost use Rattle.stages.specs.StageLaws.{staged_sound, staged_shelved, staged_enveloped};
 
 use crate::stage::Staging;
-use layers::{line_over, lines_over, send};
+use layers::{line_below, lines_over, send};
 use supplier::{Fault, Kind, Line, Supplier};
 
 impl<S: Supplier> Supplier for Staging<S> {
@@ -40,14 +40,16 @@ impl<S: Supplier> Supplier for Staging<S> {
     }
 
     fn line(&self, i: usize) -> Option<Line> {
-        let own = Line {
+        if i > 0 {
+            return line_below(&self.below, i);
+        }
+        Some(Line {
             number: self.own.ledger.number,
             kind: Kind::Stage,
-            order: self.own.ledger.book.due(1, 0).unwrap_or(0),
+            order: self.own.ledger.book.last(),
             delivery: self.own.delivered,
             held: self.own.shelf,
-        };
-        line_over(own, &self.below, i)
+        })
     }
 
     fn trial(&self, q: u64) -> Option<Fault> {

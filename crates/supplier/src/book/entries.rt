@@ -43,18 +43,27 @@ impl Book {
         true
     }
 
-    /// The order of `back` days before the newest.
+    /// The order of `back` days before the newest; 0 where the book reaches no further back.
     pub(crate) fn order(&self, back: usize) -> u64
-        requires { back < horizon }
         ensures order { result ≡ slice_index (orders_of self.now) back }
         ensures small { result ≤ most }
     {
+        if back >= HORIZON {
+            return 0;
+        }
         let place = self.newest + back;
         if place < HORIZON {
             self.ring[place]
         } else {
             self.ring[place - HORIZON]
         }
+    }
+
+    /// The order of the last day taken; 0 before day 1.
+    pub fn last(&self) -> u64
+        ensures { result ≡ slice_index (orders_of self.now) 0 }
+    {
+        self.ring[self.newest]
     }
 
     /// The order due on the day that takes q, at a quote of so many days; absent beyond the horizon.
@@ -73,11 +82,6 @@ impl Book {
         ensures { result ≡ near k (window k (orders_of self.now)) }
     {
         let days = within_horizon(k)?;
-        let mut sum = 0;
-        // A chain that ends in `sum` was tried: its proof did not find that the sum fits.
-        for back in 0..days {
-            sum += self.order(back);
-        }
-        Some(sum)
+        Some((0..days).map(|back| self.order(back)).sum())
     }
 }

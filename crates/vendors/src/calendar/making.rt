@@ -23,6 +23,7 @@ pub const RANGES: [Range; 4] = [
     },
 ];
 
+// The figures come one by one, as a file's record has them: a struct would be a second name for that record.
 impl Vendor<CalendarTerms> {
     /// The refusal of these figures, or none.
     pub fn question(number: u64, mask: u64, travel: u64, weekly: u64) -> Option<Refusal>

@@ -5,7 +5,7 @@ ghost use Rattle.vendors.specs.Pipelines.{pipeline_ranges, Made};
 
 use crate::pipeline::PipelineTerms;
 use crate::vendor::Vendor;
-use figures::{HORIZON, Range, Refusal, range_refusal};
+use figures::{DAYS, Range, Refusal, range_refusal};
 use supplier::{NUMBERS, kept_number};
 
 /// A pipeline vendor.
@@ -14,16 +14,14 @@ pub type Pipeline = Vendor<PipelineTerms>;
 /// The ranges of the number, the lead and the most pieces of a day.
 pub const RANGES: [Range; 3] = [
     NUMBERS,
-    Range {
-        low: 0,
-        high: HORIZON as u64,
-    },
+    DAYS,
     Range {
         low: 0,
         high: 10_000_000,
     },
 ];
 
+// The figures come one by one, as a file's record has them: a struct would be a second name for that record.
 impl Vendor<PipelineTerms> {
     /// The refusal of these figures, or none.
     pub fn question(number: u64, lead: u64, max: u64) -> Option<Refusal>

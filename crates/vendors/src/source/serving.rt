@@ -11,12 +11,11 @@ impl Source {
         ensures { result ≡ line_of kind self.now }
     {
         let book = &self.ledger.book;
-        let order = book.due(1, 0).unwrap_or(0);
         let held = book.sum(self.quote).unwrap_or(0);
         Line {
             number: self.ledger.number,
             kind,
-            order,
+            order: book.last(),
             delivery: self.delivered,
             held,
         }

@@ -1,40 +1,9 @@
-use Rattle.std.proofs.Common.{◌≡◌, ℕ, false, [], ◌∷◌, Some, None, Option, refl, sym, ◌∙◌, subst, arith}
-use Rattle.std.specs.Option.{is_some}
-use Rattle.figures.specs.declared.refusals.Refusal.{Refusal}
+use Rattle.std.proofs.Common.{◌≡◌, [], ◌∷◌, refl, sym, ◌∙◌, arith}
 use Rattle.supplier.proofs.Naming.{named-kept}
-use Rattle.supplier.specs.Meaning.{Meaning}
-use Rattle.layers.proofs.Asking.{never_asked, given_resting}
-use Rattle.assemblies.specs.AssemblyMaking.{assembly_ranges, AssemblyAsked, AssemblyPasses, Unkitted}
+use Rattle.layers.proofs.Asking.{never_asked, asked_none, given_resting}
+use Rattle.assemblies.specs.AssemblyMaking.{assembly_ranges}
 use Rattle.assemblies.proofs.Kitted.{joined_new}
 use Rattle.assemblies.proofs.assembly.Assembling.over.Goals as goal
-
--- one that does not refuse passes
-passes : (left right : Meaning) (number a b : ℕ) (o : Option Refusal) → is_some o ≡ false → AssemblyAsked left right number a b o → AssemblyPasses left right number a b
-passes left right number a b (Some why) e asked = cc
-passes left right number a b None e asked = asked
-
-pub invariant_of-result : goal.invariant_of-result
-invariant_of-result g c =
-    let left = g.L.Supplier.meaning c.args.left in
-    let right = g.R.Supplier.meaning c.args.right in
-    let p = passes left right c.args.number c.args.a c.args.b c.question.result (sym c.if-is_some.ensures) c.question.ensures.asked in
-    record {
-      joined = joined_new left right _ _ _ c.unkitted-own.result (g.met.L.Supplier.sound c.args.left) (g.met.R.Supplier.sound c.args.right) p.1 c.unkitted-own.ensures;
-    }
-
-pub returns : goal.returns
-returns g c =
-    let left = g.L.Supplier.meaning c.args.left in
-    let right = g.R.Supplier.meaning c.args.right in
-    let p = passes left right c.args.number c.args.a c.args.b c.question.result (sym c.if-is_some.ensures) c.question.ensures.asked in
-    let n = c.kept_number.ensures ∙ named-kept c.args.number (p.0 0 (omega arith) (omega arith)) in (
-      p,
-      record {
-        over_left = refl;
-        over_right = refl;
-        unkitted = subst (λ k. Unkitted k c.args.a c.args.b c.unkitted-own.result) n c.unkitted-own.ensures;
-      },
-    )
 
 pub returns-then-is_some : goal.returns-then-is_some
 returns-then-is_some g c =
@@ -43,3 +12,29 @@ returns-then-is_some g c =
     given_resting _ _ _ _ _ _
     (never_asked assembly_ranges (a.number ∷ a.a ∷ a.b ∷ []) unused (Unit {0}) (Unit {0}) (Unit {0}) c.question.result (sym c.if-is_some.ensures) c.question.ensures.asked)
     c.resting.ensures
+
+pub invariant_of-result : goal.invariant_of-result
+invariant_of-result g c =
+    let a = c.args in
+    let left = g.L.Supplier.meaning a.left in
+    let right = g.R.Supplier.meaning a.right in
+    let p = asked_none assembly_ranges (a.number ∷ a.a ∷ a.b ∷ []) ((left.service.days ≡ 0) × (right.service.days ≡ 0)) (Unit {0}) (Unit {0}) (Unit {0}) c.question.result (sym c.if-is_some.ensures) c.question.ensures.asked in
+    record {
+      joined = joined_new left right c.kept_number.result a.a a.b _ (g.met.L.Supplier.sound a.left) (g.met.R.Supplier.sound a.right) p.1
+          (record { numbered = refl; lefts = refl; rights = refl; none = c.new.ensures; unused = refl; left_waits = refl; right_waits = refl; undelivered = refl });
+    }
+
+pub returns : goal.returns
+returns g c =
+    let a = c.args in
+    let left = g.L.Supplier.meaning a.left in
+    let right = g.R.Supplier.meaning a.right in
+    let p = asked_none assembly_ranges (a.number ∷ a.a ∷ a.b ∷ []) ((left.service.days ≡ 0) × (right.service.days ≡ 0)) (Unit {0}) (Unit {0}) (Unit {0}) c.question.result (sym c.if-is_some.ensures) c.question.ensures.asked in
+    let n = c.kept_number.ensures ∙ named-kept a.number (p.0 0 (omega arith) (omega arith)) in (
+      p,
+      record {
+        over_left = refl;
+        over_right = refl;
+        unkitted = record { numbered = n; lefts = refl; rights = refl; none = c.new.ensures; unused = refl; left_waits = refl; right_waits = refl; undelivered = refl };
+      },
+    )

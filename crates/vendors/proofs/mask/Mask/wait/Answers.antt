@@ -6,7 +6,7 @@ use Rattle.vendors.proofs.mask.Mask.wait.Goals as goal
 
 pub returns : goal.returns
 returns c =
-    let mask = c.args.self in
+    let mask = c.args.self.now in
     let p = c.args.day % week in
     let w = waits mask.bits p mask.some mask.days (mod-lt c.args.day (omega arith)) in
     let e : count_trailing_zeros 32 (turned c.from-mask.result p) ≡ wait mask.bits p =

@@ -1,4 +1,4 @@
-use Rattle.std.proofs.Common.{◌≡◌, ◌+◌, ◌-◌, ◌*◌, max, ◌++◌, get_or, Some, unwrap_or, sym, ap, ◌∙◌, arith}
+use Rattle.std.proofs.Common.{◌≡◌, ◌+◌, ◌-◌, ◌*◌, max, ◌++◌, Some, sym, ap, ◌∙◌, arith}
 use Rattle.std.specs.List.{slice_get}
 use Rattle.figures.specs.Days.{span}
 use Rattle.supplier.specs.declared.line.Kind.TheVariants as kind
@@ -47,6 +47,6 @@ returns g c =
     let r = s.joined.right_waits in
     let h : c.saturating_add-held.result ≡ own.left.per_kit * span early (max early late) orders + own.right.per_kit * span late (max early late) orders =
     let e = c.saturating_add-held.ensures in let x = c.waiting-waiting.ensures.left in let y = c.waiting-waiting.ensures.right in omega arith in
-    let o : c.unwrap_or-order.result ≡ get_or orders 0 0 = c.unwrap_or-order.ensures ∙ ap (λ x. unwrap_or x 0) c.due.ensures in
+    let o = c.last.ensures in
     (λ i. Some (record { number = own.number; kind = kind.Assembly; order = o i; delivery = own.delivered; held = h i }))
     ∙ topped-first (assembly_line own.number own.left.per_kit own.right.per_kit early late orders own.delivered) (left.sheet ++ right.sheet) c.args.i (omega arith)

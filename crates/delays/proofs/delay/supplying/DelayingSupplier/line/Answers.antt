@@ -1,10 +1,10 @@
-use Rattle.std.proofs.Common.{◌≡◌, ◌+◌, ◌∙◌}
-use Rattle.std.specs.List.{slice_get}
+use Rattle.std.proofs.Common.{◌≡◌, ◌+◌, Some, ◌∙◌, arith}
 use Rattle.figures.specs.Days.{span}
 use Rattle.supplier.specs.declared.line.Kind.TheVariants as kind
 use Rattle.supplier.specs.Books.{orders_of}
-use Rattle.layers.specs.Sheets.{topped}
+use Rattle.layers.proofs.Topped.{topped-first}
 use Rattle.layers.proofs.Rows.{in_row}
+use Rattle.delays.specs.Delays.{delay_line}
 use Rattle.delays.proofs.delay.supplying.DelayingSupplier.line.Goals as goal
 
 pub returns : goal.returns
@@ -15,5 +15,5 @@ returns g c =
     let early = m.service.quote in
     let h : c.in_transit.result ≡ span early (early + own.delay) m.service.book =
     c.in_transit.ensures.told ∙ in_row early own.delay (orders_of own.received) m.service.book s.late.coming in
-    c.line_over.ensures
-    ∙ (λ i. slice_get (topped (record { number = own.number; kind = kind.Delay; order = s.late.last i; delivery = own.delivered; held = h i }) m.sheet) c.args.i)
+    (λ i. Some (record { number = own.number; kind = kind.Delay; order = s.late.last i; delivery = own.delivered; held = h i }))
+    ∙ topped-first (delay_line own.number own.delay early m.service.book own.delivered) m.sheet c.args.i (omega arith)
