@@ -1,7 +1,7 @@
 -- The fields of a record, read one by one.
 use Rattle.std.proofs.Common.{◌≡◌, ℕ, ◌+◌, ◌^◌, ◌<◌, ◌≤◌, List, [], ◌∷◌, ◌++◌, length, get_or, take, Some, None, Ok, Err, decimal, Option, Result, sym, refl, ap, ◌∙◌, subst, ⊎_elim, append-nil, arith, Bor, MatchOption}
 use Rattle.std.proofs.Math.ListN.{set}
-use Rattle.std.proofs.lemmas.List.{get_or_append_left, get_or_push, length-take, length_push, take_all, take_more_set}
+use Rattle.std.proofs.lemmas.List.{get_or_append_left, get_or_push, length-take, length_push, take_more_set}
 use Rattle.std.proofs.lemmas.Bool.{cases_lt}
 use Rattle.figures.specs.declared.ranges.Range.{Range}
 use Rattle.figures.specs.Ranges.{Within, missing}
@@ -12,7 +12,7 @@ use Rattle.records.specs.declared.word_fault.WordFault.{WordFault}
 use Rattle.records.specs.declared.word_fault.WordFault.TheVariants.{OutOfRange, NoNumber}
 use Rattle.records.specs.declared.record_fault.RecordFault.TheVariants.{Word}
 use Rattle.records.specs.Readings.{IsWord, ReadPart, FigureRead}
-use Rattle.records.specs.Fields.{Good, Filled, WrongWord, MissingField, ExtraField, NotWritten, OutOf, FaultyFields, figures_text, led}
+use Rattle.records.specs.Fields.{Good, WrongWord, NotWritten, OutOf, FaultyFields, figures_text, led}
 use Rattle.records.specs.Numerals.{Writes, most_digits}
 use Rattle.records.specs.Words.{Lacks}
 
@@ -104,22 +104,6 @@ word_faulty ranges n text before part rest after (NoNumber p) good due e lacks c
 
 -- Where the loop stands: i figures were read, and this is what is left of the text.
 module _ (ranges : List Range) (text figures : List ℕ) (i : ℕ) (rest : Option (Bor (List ℕ))) (full : length figures ≡ length ranges) (so_far : Progress ranges text (take i figures) rest) where
-  pub missing_next : rest ≡ None → i < length ranges → MissingField ranges text (i + 1)
-  missing_next none due =
-      let now = subst (Progress ranges text (take i figures)) none so_far in
-      let l = length-take i figures in
-      record { before = take i figures; good = now.0; some = now.1; due = omega arith; here = omega arith; written = now.2 }
-
-  pub all_filled : rest ≡ None → length ranges ≤ i → Filled ranges text figures
-  all_filled none done =
-      let now = subst (λ (fs : List ℕ). Progress ranges text fs None) (take_all i figures (omega arith)) (subst (Progress ranges text (take i figures)) none so_far) in
-      record { good = now.0; all = full; written = now.2 }
-
-  pub extra_next : (more : Bor (List ℕ)) → rest ≡ Some more → length ranges ≤ i → (field : ℕ) → field ≡ length ranges + 1 → ExtraField ranges text field
-  extra_next more some done field here =
-      let now = subst (λ (fs : List ℕ). Progress ranges text fs (Some more)) (take_all i figures (omega arith)) (subst (Progress ranges text (take i figures)) some so_far) in
-      record { before = figures; more = more.now; good = now.0; all = full; here = omega arith; written = now.1 }
-
   -- the next word, up to a space or the end, and the word that it is
   module _ (n : ℕ) (left : Bor (List ℕ)) (some : rest ≡ Some left) (due : i < length ranges) (part : List ℕ) (after : Option (Bor (List ℕ))) (cut : MatchOption after (left.now ≡ part) (λ r. left.now ≡ part ++ 32 ∷ r.now))
       (w : Spoken) (word : IsWord part (record { «record» = n; field = i + 1 }) w) where

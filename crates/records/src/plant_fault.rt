@@ -30,6 +30,7 @@ impl From<RecordFault> for PlantFault {
     }
 }
 
+// By hand, as above.
 impl From<Fault> for PlantFault {
     ghost from_gives = { λ fault r. r ≡ Day fault };
 

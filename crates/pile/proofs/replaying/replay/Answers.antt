@@ -1,35 +1,13 @@
-use Rattle.std.proofs.Common.{◌<◌, List, [], length, map, take, vec_items, sym, refl, ap, ◌≡◌, ◌∙◌, subst, arith}
+use Rattle.std.proofs.Common.{◌<◌, List, [], length, map, take, vec_items, sym, ap, ◌≡◌, ◌∙◌, subst, arith}
 use Rattle.std.proofs.lemmas.List.{take_all, take_more}
 use Rattle.pile.specs.declared.calls.Call.TheVariants.{Trial}
 use Rattle.pile.specs.declared.calls.Event.{Event}
 use Rattle.pile.specs.Events.{asked}
 use Rattle.pile.specs.Steps.{state_of, terms_of}
 use Rattle.pile.proofs.Showing.{shown, stands_new}
-use Rattle.pile.proofs.Running.{Running, asked-push, running_none, running_more, running_all}
+use Rattle.pile.proofs.Running.{Running, asked-push, running_more, running_all}
 use Rattle.pile.proofs.Summits.{summits}
 use Rattle.pile.proofs.replaying.replay.Goals as goal
-
--- there is room for every answer
-pub returns-in_err-push : goal.returns-in_err-push
-returns-in_err-push g c =
-    let full = c.in_err-push.ensures.full in
-    let i = c.loop-call.invariant.told in
-    let r = c.loop-call.invariant.room in
-    absurd (omega arith)
-
-pub loop-call-init : goal.loop-call-init
-loop-call-init g c =
-    let e = c.in_ok-events.ensures in
-    let a = c.args.supplier.now in
-    let t = terms_of g.S.Supplier a in
-    let s = state_of g.S.Supplier a in
-    record {
-      told = e.len;
-      room = e.capacity;
-      lays = refl;
-      running = λ orders stands. subst (λ (es : List Event). Running t orders s es s) (sym e.items) (running_none t orders s stands);
-      asked = ap (map asked) e.items;
-    }
 
 pub loop-call-preserved : goal.loop-call-preserved
 loop-call-preserved g c =

@@ -1,19 +1,9 @@
 use Rattle.std.proofs.Common.{◌∷◌, take, sym, ap, ◌∙◌, subst, arith}
-use Rattle.std.proofs.lemmas.List.{length-set}
 use Rattle.std.proofs.lemmas.Bool.{le-leb}
 use Rattle.figures.specs.Days.{most}
 use Rattle.supplier.specs.Books.{orders_of, BeforeNewest}
-use Rattle.supplier.proofs.Rings.{unrolled-set, set-small}
+use Rattle.supplier.proofs.Rings.{unrolled-set}
 use Rattle.supplier.proofs.book.Book.take.Goals as goal
-
-pub invariant_of-self : goal.invariant_of-self
-invariant_of-self c =
-    let s = c.args.self.now in
-    record {
-      long = length-set s.ring c.before-place.result c.args.q ∙ s.long;
-      inside = c.before-place.ensures.inside;
-      small = set-small most s.ring c.before-place.result c.args.q s.small c.if-q-gt-MOST_PIECES.false;
-    }
 
 pub returns : goal.returns
 returns c =

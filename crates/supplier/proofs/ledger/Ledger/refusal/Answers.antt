@@ -1,4 +1,4 @@
-use Rattle.std.proofs.Common.{◌≡◌, ℕ, Some, Option, sym, subst, rules}
+use Rattle.std.proofs.Common.{◌≡◌, ℕ, Option, sym, subst, rules}
 use Rattle.figures.specs.Days.{for_days}
 use Rattle.supplier.specs.declared.fault.Fault.{Fault}
 use Rattle.supplier.specs.declared.ledger.Ledger.{Ledger}
@@ -10,11 +10,6 @@ use Rattle.supplier.proofs.ledger.Ledger.refusal.Goals as goal
 plainly : (l : Ledger) (q : ℕ) (r : Option Fault) → r ≡ refusal_of l q → RefusedPlainly l q r
 plainly l q r e =
     subst (RefusedPlainly l q) (sym e) (finds_plain l.number (for_days l.limits.bounds) l.days (orders_of l.book) q l.until)
-
-pub returns-then-self-eq-TERM-clause-plain : goal.returns-then-self-eq-TERM-clause-plain
-returns-then-self-eq-TERM-clause-plain c =
-    let e : Some c.term_spent.result ≡ refusal_of c.args.self.now c.args.q = search rules in
-    plainly c.args.self.now c.args.q (Some c.term_spent.result) e
 
 pub returns-clause-plain : goal.returns-clause-plain
 returns-clause-plain c =
