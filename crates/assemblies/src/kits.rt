@@ -8,6 +8,7 @@ use supplier::Book;
 pub mod assembling;
 
 /// An assembly's kits: the parts that they take of each side, the orders, and the last delivery.
+/// Not a `Ledger`: an assembly has no limits of its own to hold.
 #[derive(Drop)]
 pub struct Kits {
     pub number: u16,

@@ -3,7 +3,7 @@ ghost use Rattle.std.specs.Prelude.{◌≡◌};
 ghost use Rattle.records.specs.RecordFaults.{whole_record};
 
 /// The record, and the field after its mark, each counted from 1; the mark itself is field 0.
-/// The default is no place: both are 0, as a fault prints where there is none.
+/// The default is no place: by the project's rule a fault prints 0 where there is none, so both are 0.
 #[derive(Clone, Copy, PartialEq, Eq, Debug, Default)]
 pub struct Place {
     pub record: usize,

@@ -21,7 +21,7 @@ pub fn check_size(file: &[u8]) -> Result<(), PlantFault>
     Ok(())
 }
 
-// What is left of a file and the number go in and out: a struct that keeps them would change in place, and say no more.
+// What is left of a file goes in and comes out: a struct that kept it and the number would change in place, and say no more.
 /// The record with this number, which is due to be of this kind, from what is left of a file, and what is left after it; none at the end of the file.
 pub fn next_record(
     rest: &[u8],
