@@ -175,9 +175,9 @@ summit m layout placed bound calls events k sound shelved v run = record {
         omega arith
 
     climbing : Climbing bound calls → AllByRecursion Took events × ((k : ℕ) → k ≤ horizon → taken [] (take k events) ≡ climb bound (0 + k))
-    climbing (orders, c, e) =
-        climbs bound v.none grows v.joins (terms m layout placed) v.same horizon 0 orders events (state m placed) k c.long (omega arith)
-        (λ n l. let z : 0 + n ≡ n = omega arith in c.steps n l ∙ (λ i. bound (add-one (sym z i) i) - bound (sym z i))) (run.each ∙ e) run.history
+    climbing c =
+        climbs bound v.none grows v.joins (terms m layout placed) v.same horizon 0 c.orders events (state m placed) k c.long (omega arith)
+        (λ n l. let z : 0 + n ≡ n = omega arith in c.steps n l ∙ (λ i. bound (add-one (sym z i) i) - bound (sym z i))) (run.each ∙ c.days) run.history
 
 -- a new supplier, with an envelope or none
 pub summits : (m : Meaning) (layout : Layout) (placed : List Placed) (envelope : Option (ℕ → ℕ)) (calls : List Call) (events : List Event) (k : State) →

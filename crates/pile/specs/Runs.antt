@@ -1,8 +1,7 @@
 -- What every list of calls at a supplier keeps, said of the orders that were taken from day 1, the newest first.
-use Rattle.std.specs.Prelude.{◌≡◌, ℕ, ◌-◌, ◌*◌, ◌<◌, ◌≤◌, List, [], ◌∷◌, map, length, take, drop, IfSome, Some, None, Ok, Err, Option}
+use Rattle.std.specs.Prelude.{◌≡◌, ℕ, ◌+◌, ◌-◌, ◌*◌, ◌<◌, ◌≤◌, List, [], ◌∷◌, map, length, take, drop, slice_index, IfSome, Some, None, Ok, Err, Option}
 use Rattle.std.specs.List.{slice_get, AllByRecursion}
 use Rattle.figures.specs.Days.{horizon, total}
-use Rattle.envelope.specs.Climbs.{Climbs}
 use Rattle.supplier.specs.declared.line.Line.{Line as Row}
 use Rattle.supplier.specs.Orders.{due, recent}
 use Rattle.supplier.specs.Limits.{told_limit}
@@ -81,9 +80,13 @@ pub record Run (t : Terms) (orders : List ℕ) (s : State) (calls : List Call) (
   pub history : History t orders s events k
   pub ends : Stands t (taken orders events) k
 
--- the calls are the days of the climbing list, and nothing else
-abbrev pub Climbing : (ℕ → ℕ) → List Call → Type 0
-Climbing bound calls = (orders : List ℕ) × Climbs (record { bound = bound; mean = 0 }) orders × (calls ≡ map call.Day orders)
+-- The calls are the days of the climbing list, and nothing else: a day for each of the horizon,
+-- and each orders what one more day adds to the bound.
+pub record Climbing (bound : ℕ → ℕ) (calls : List Call) : Type 0 where
+  pub orders : List ℕ
+  pub days : calls ≡ map call.Day orders
+  pub long : length orders ≡ horizon
+  pub steps : (k : ℕ) → k < horizon → slice_index orders k ≡ bound (k + 1) - bound k
 
 -- some day of the list leaves the shelf at its lowest point
 abbrev pub Reached : (ℕ → ℕ) → List Event → Shelf → Type 0
