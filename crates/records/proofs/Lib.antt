@@ -1,4 +1,5 @@
 pub mod Spelling
 pub mod Progress
+pub mod Marking
 pub mod Splitting
 pub mod Returning

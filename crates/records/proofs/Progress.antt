@@ -1,5 +1,5 @@
 -- The fields of a record, read one by one.
-use Rattle.std.proofs.Common.{◌≡◌, ℕ, ◌+◌, ◌^◌, ◌<◌, ◌≤◌, List, [], ◌∷◌, ◌++◌, length, get_or, take, Some, None, Ok, Err, decimal, Option, Result, sym, refl, ap, ◌∙◌, subst, ⊎_elim, append-nil, arith, Bor, MatchOption}
+use Rattle.std.proofs.Common.{◌≡◌, ℕ, ◌+◌, ◌^◌, ◌<◌, ◌≤◌, List, [], ◌∷◌, ◌++◌, length, get_or, take, Some, None, Ok, Err, decimal, Option, Result, sym, refl, ap, ◌∙◌, subst, ⊎_elim, append-nil, zero-le, arith, Bor, MatchOption}
 use Rattle.std.proofs.Math.ListN.{set}
 use Rattle.std.proofs.lemmas.List.{get_or_append_left, get_or_push, length-take, length_push, take_more_set}
 use Rattle.std.proofs.lemmas.Bool.{cases_lt}
@@ -31,6 +31,9 @@ text_push (g ∷ []) n = refl
 text_push (g ∷ h ∷ hs) n = ap (λ (t : List ℕ). decimal g ++ 32 ∷ t) (text_push (h ∷ hs) n)
 
 module _ (ranges : List Range) (text : List ℕ) where
+  pub good_none : Good ranges []
+  good_none = record { few = zero-le; short = λ i h. absurd (omega arith); within = λ i h. absurd (omega arith) }
+
   module _ (before : List ℕ) (n : ℕ) (good : Good ranges before) (due : length before < length ranges) where
     -- what holds of each figure and of one more holds of each then
     each-push : (P : ℕ → ℕ → Type 0) → ((i : ℕ) → i < length before → P i (get_or before i 0)) → P (length before) n →
@@ -50,7 +53,7 @@ module _ (ranges : List Range) (text : List ℕ) where
     }
 
     -- one more good figure
-    progress_more : (part rest : List ℕ) (after : Option (Bor (List ℕ))) → text ≡ led before rest →
+    pub progress_more : (part rest : List ℕ) (after : Option (Bor (List ℕ))) → text ≡ led before rest →
         MatchOption after (rest ≡ part) (λ r. rest ≡ part ++ 32 ∷ r.now) → Writes part n → Within (get_or ranges (length before) missing) n →
         Progress ranges text (before ++ n ∷ []) after
     progress_more part rest None e cut w within =
@@ -59,7 +62,7 @@ module _ (ranges : List Range) (text : List ℕ) where
         (good-push w.0 within, e ∙ ap (led before) (cut ∙ ap (λ (t : List ℕ). t ++ 32 ∷ r.now) w.1) ∙ led-push before n r.now)
 
   -- a word that is wrong
-  wrong_word : (Wrong : Range → List ℕ → Type 0) (before part rest : List ℕ) (after : Option (Bor (List ℕ))) → Good ranges before → length before < length ranges →
+  pub wrong_word : (Wrong : Range → List ℕ → Type 0) (before part rest : List ℕ) (after : Option (Bor (List ℕ))) → Good ranges before → length before < length ranges →
       text ≡ led before rest → Lacks 32 part → MatchOption after (rest ≡ part) (λ r. rest ≡ part ++ 32 ∷ r.now) →
       Wrong (get_or ranges (length before) missing) part → (field : ℕ) → field ≡ length before + 1 → WrongWord Wrong ranges text field
   wrong_word Wrong before part rest None good due e lacks cut wrong field here = record {
@@ -88,13 +91,13 @@ module _ (ranges : List Range) (text : List ℕ) where
   }
 
 -- the figure of a field's word is that of its part
-word_read : (part : List ℕ) (place : Place) (range : Range) (w : Spoken) (r : Result ℕ WordFault) → IsWord part place w → FigureRead w range r → ReadPart part place range r
+pub word_read : (part : List ℕ) (place : Place) (range : Range) (w : Spoken) (r : Result ℕ WordFault) → IsWord part place w → FigureRead w range r → ReadPart part place range r
 word_read part place range (Mark p at) r i f = absurd i
 word_read part place range (Number p at) r (n, e, same) f = subst (λ x. ReadPart x place range r) e (subst (λ x. ReadPart p.now x range r) same f)
 word_read part place range (Junk p at) r (none, e, same) f = subst (ReadPart part place range) (sym f) (none, same)
 
 -- a fault of a field's word
-word_faulty : (ranges : List Range) (n : ℕ) (text before part rest : List ℕ) (after : Option (Bor (List ℕ))) (fault : WordFault) → Good ranges before → length before < length ranges →
+pub word_faulty : (ranges : List Range) (n : ℕ) (text before part rest : List ℕ) (after : Option (Bor (List ℕ))) (fault : WordFault) → Good ranges before → length before < length ranges →
     text ≡ led before rest → Lacks 32 part → MatchOption after (rest ≡ part) (λ r. rest ≡ part ++ 32 ∷ r.now) →
     ReadPart part (record { «record» = n; field = length before + 1 }) (get_or ranges (length before) missing) (Err fault) → FaultyFields ranges n text (Word fault)
 word_faulty ranges n text before part rest after (OutOfRange p) good due e lacks cut (wrong, here) =

@@ -1,5 +1,5 @@
 -- A record's line is read as that record.
-use Rattle.std.proofs.Common.{◌≡◌, ℕ, ◌+◌, ◌^◌, ◌<◌, ◌≤◌, List, ◌∷◌, ◌++◌, length, get_or, Ok, Err, decimal, Result, sym, refl, ap, ◌∙◌, subst, ⊎_elim, arith}
+use Rattle.std.proofs.Common.{◌≡◌, ℕ, ◌+◌, ◌^◌, ◌<◌, ◌≤◌, List, [], ◌∷◌, ◌++◌, length, get_or, Ok, Err, decimal, Result, sym, refl, ap, ◌∙◌, subst, ⊎_elim, arith}
 use Rattle.std.proofs.lemmas.List.{append_cancel_left, length-append, get_or-append-add}
 use Rattle.figures.specs.declared.ranges.Range.{Range}
 use Rattle.figures.specs.Ranges.{Within, missing}
@@ -13,7 +13,7 @@ use Rattle.records.specs.declared.record_fault.RecordFault.TheVariants.{Word, La
 use Rattle.records.specs.Numerals.{Writes, most_digits}
 use Rattle.records.specs.Fields.{Good, WrongWord, MissingField, ExtraField, NotWritten, OutOf, FaultyFields, figures_text}
 use Rattle.records.specs.Kinds.{mark_of, ranges_of, TakenApart}
-use Rattle.records.specs.Records.{kind_of, figures_of, record_text, InRange, RecordRead, ReadsBack}
+use Rattle.records.specs.Records.{kind_of, figures_of, record_text, InRange, TextRead, RecordRead, ReadsBack}
 use Rattle.records.proofs.Splitting.{next_word, no_space, same_number, text_same, leads, tail_of, tail-ended}
 
 -- a record from its kind and its figures
@@ -44,6 +44,23 @@ some_field kind.RootStage = omega arith
 some_field kind.Assembly = omega arith
 some_field kind.BucketStage = omega arith
 some_field kind.Day = omega arith
+
+cancel : (m a b : List ℕ) → m ++ a ≡ m ++ b → a ≡ b
+cancel [] a b e = e
+cancel (x ∷ m) a b e = cancel m a b (let h : m ++ a ≡ m ++ b = cc in h)
+
+-- what the text after the mark tells, the line tells
+pub line_read : (due : RecordKind) (n : ℕ) (line text : List ℕ) (r : Result Record RecordFault) → TakenApart due line text → TextRead due n text r → RecordRead due n line r
+line_read due n line text (Ok r) apart (same, f) = (
+  same,
+  record { good = subst (λ k. Good (ranges_of k) (figures_of r)) (sym same) f.good; all = f.all ∙ ap (λ k. length (ranges_of k)) (sym same) },
+  apart ∙ (λ i. mark_of (sym same i) ++ 32 ∷ f.written i),
+)
+line_read due n line text (Err (Word f)) apart p = (text, apart, p)
+line_read due n line text (Err (LawBroken f)) apart p = p
+line_read due n line text (Err (NoMark m)) apart p = absurd p
+line_read due n line text (Err (FieldCount f)) apart p = (text, apart, p)
+line_read due n line text (Err (LongLine m)) apart p = p
 
 -- all figures of a record are good, so no word of them is wrong, none is missing, and none is too many
 module _ (ranges : List Range) (fs : List ℕ) (good : Good ranges fs) (all : length fs ≡ length ranges) (some : 1 ≤ length fs) where

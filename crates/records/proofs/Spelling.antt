@@ -1,14 +1,13 @@
 -- The words that write numbers: their digits, and their values.
-use Rattle.std.proofs.Common.{◌≡◌, ℕ, ◌^◌, ◌<◌, ◌≤◌, ◌≢◌, List, length, get_or, Ok, Err, Result, Bor, MatchResult, Some, None, decimal, sym, ap, ◌∙◌, subst, ⊎_elim, arith}
+use Rattle.std.proofs.Common.{◌≡◌, ℕ, ◌+◌, ◌-◌, ◌*◌, ◌^◌, ◌<◌, ◌≤◌, List, length, get_or, take, decimal, sym, ap, ◌∙◌, subst, ⊎_elim, pow-suc, add-one, arith}
+use native.Mathlib.Nat.{pow-le-pow_right}
 use Rattle.std.specs.Int.{IsInRange}
-use Rattle.std.specs.Result.{result_ok}
-use Rattle.std.specs.Str.{IsUtf8, IsAscii}
-use Rattle.std.specs.Str.Parse.{digits_value, ParsesUnsigned}
-use Rattle.std.proofs.lemmas.Fmt.{decimal_is_IsNumeral, decimal_nonempty, decimal_digit, length-decimal-le, first_decimal, decimal-digits_value, IsAscii-decimal, parse-decimal}
-use Rattle.std.proofs.lemmas.Str.{IsUtf8-from_ascii}
-use Rattle.std.proofs.lemmas.Result.{MatchResult-at_ok, OkIff-at_ok}
-use Rattle.std.proofs.lemmas.Str.Parse.{IsNumeralModel, numerals_by_value, tells_by_index, digit_at, digits_value_short, parse_plain}
-use Rattle.std.proofs.lemmas.Bool.{cases_lt}
+use Rattle.std.specs.Char.{digit_value}
+use Rattle.std.specs.Str.Parse.{digits_value}
+use Rattle.std.proofs.lemmas.Fmt.{decimal_is_IsNumeral, decimal_nonempty, decimal_digit, length-decimal-le, first_decimal, decimal-digits_value}
+use Rattle.std.proofs.lemmas.Int.Digits.{digits_value_more}
+use Rattle.std.proofs.lemmas.Str.Parse.{IsNumeralModel, numerals_by_value, tells_by_index, digit_at, digits_value_short}
+use Rattle.std.proofs.lemmas.Bool.{cases_lt, cond-true, cond-false, lt-ltb, le-ltb}
 use Rattle.records.specs.Numerals.{Writes, IsNoNumber, most_digits}
 
 -- what a word that writes a number looks like
@@ -56,32 +55,28 @@ plus_none w e n h =
 pub zero_none : (w : List ℕ) → get_or w 0 0 ≡ 48 → 2 ≤ length w → IsNoNumber w
 zero_none w e long n h = let l = (writes_shape w n h).lean e in omega arith
 
--- nor one that is too long
+-- nor one with no digit, or with too many
+pub empty_none : (w : List ℕ) → length w < 1 → IsNoNumber w
+empty_none w h n e = let s = (writes_shape w n e).some in omega arith
+
 pub long_none : (w : List ℕ) → most_digits < length w → IsNoNumber w
 long_none w long n h = let f = (writes_shape w n h).few in omega arith
 
-no_text : {E : Type 0} (Q : E → Type 0) (w : List ℕ) (r : Result (Bor (List ℕ)) E) → MatchResult r (λ t. (t.now ≡ w) × IsUtf8 w) (λ e. (IsUtf8 w → ⊥) × Q e) → None ≡ result_ok r → IsUtf8 w → ⊥
-no_text Q w (Ok t) h e u = absurd (cc)
-no_text Q w (Err x) h e u = h.0 u
+-- a digit's value
+digit_value_lem : (c : ℕ) → 48 ≤ c → c ≤ 57 → digit_value c ≡ c - 48
+digit_value_lem c a b = cond-false _ _ _ (le-ltb c 48 a) ∙ cond-true _ _ _ (lt-ltb c 58 (omega arith))
 
--- What `from_utf8` and then `parse` tell of a word:
-module _ {E : Type 0} (Q : E → Type 0) (w : List ℕ) (r : Result (Bor (List ℕ)) E) (told : MatchResult r (λ t. (t.now ≡ w) × IsUtf8 w) (λ e. (IsUtf8 w → ⊥) × Q e)) where
-  -- one that is no text writes no number
-  pub other_none : None ≡ result_ok r → IsNoNumber w
-  other_none e n h = no_text Q w r told e (IsUtf8-from_ascii w (subst IsAscii (sym h.1) (IsAscii-decimal n (omega (arith, h.0)))))
+-- one more digit
+pub one_more : (w : List ℕ) (i n : ℕ) → i < length w → n ≡ digits_value 10 (take i w) → 48 ≤ get_or w i 0 → get_or w i 0 ≤ 57 →
+    10 * n + (get_or w i 0 - 48) ≡ digits_value 10 (take (i + 1) w)
+one_more w i n h e a b =
+    let m = digits_value_more 10 w i h in
+    let d = digit_value_lem (get_or w i 0) a b in
+    omega arith
 
-  module _ {F : Type 0} (text : Bor (List ℕ)) (is : Some text ≡ result_ok r) (p : Result ℕ F) (parsed : ParsesUnsigned 64 10 text.now p) where
-    same : text.now ≡ w
-    same = let k : r ≡ Ok text = grind arith in (MatchResult-at_ok _ _ text k told).0
+-- a number of so few digits is small
+pub few-small : (i n : ℕ) → i < most_digits → n < 10 ^ i → n < 10 ^ (most_digits - 1)
+few-small i n h s = let l : i ≤ most_digits - 1 = omega arith in let p = pow-le-pow_right {n = 10} (omega arith) l in omega arith
 
-    -- nor does one that `parse` does not read
-    pub unread_none : None ≡ result_ok p → IsNoNumber w
-    unread_none e n h = let k = parse-decimal 64 n text.now p (omega (arith, h.0)) (omega (arith, h.0)) (same ∙ h.1) parsed in absurd (cc)
-
-    -- any other writes the number that is read
-    pub read_writes : (n : ℕ) → Some n ≡ result_ok p → get_or w 0 0 ≢ 43 → (get_or w 0 0 ≡ 48 → length w ≤ 1) → length w ≤ most_digits → Writes w n
-    read_writes n e plus lean few =
-        let k : p ≡ Ok n = grind arith in
-        let d = OkIff-at_ok p _ _ n (parse_plain own {E = F} 64 w p (subst (λ t. ParsesUnsigned 64 10 t p) same parsed) plus) k in
-        let some = d.0.1 in
-        shape_writes w n (record { some = some; few = few; lean = (λ e. let l = lean e in omega arith); digits = d.0.0 }) d.1
+pub one-more-small : (i n d : ℕ) → n < 10 ^ i → d ≤ 9 → 10 * n + d < 10 ^ (i + 1)
+one-more-small i n d s h = let p = pow-suc 10 i in rw add-one (omega arith)

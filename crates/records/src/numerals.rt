@@ -12,9 +12,15 @@ pub fn number(word: &[u8]) -> Option<u64>
     if word.len() > MOST_DIGITS {
         return None;
     }
-    let figure = str::from_utf8(word).ok()?.parse::<u64>().ok()?;
-    match word {
-        [b'+', ..] | [b'0', _, ..] => None,
-        _ => Some(figure),
+    if let [] | [b'0', _, ..] = word {
+        return None;
     }
+    let mut n = 0;
+    for digit in word {
+        if !digit.is_ascii_digit() {
+            return None;
+        }
+        n = 10 * n + u64::from(*digit - b'0');
+    }
+    Some(n)
 }

@@ -34,13 +34,13 @@ impl Record {
         let ranges = kind.ranges();
         // An arm for each kind: their arrays have lengths, and so types, of their own.
         match kind {
-            RecordKind::Calendar => fields.figures(ranges).map(Record::Calendar),
-            RecordKind::Delay => fields.figures(ranges).map(Record::Delay),
-            RecordKind::Pipeline => fields.figures(ranges).map(Record::Pipeline),
-            RecordKind::RootStage => fields.figures(ranges).map(Record::RootStage),
-            RecordKind::Assembly => fields.figures(ranges).map(Record::Assembly),
-            RecordKind::BucketStage => fields.figures(ranges).map(Record::BucketStage),
-            RecordKind::Day => fields.figures(ranges).map(Record::Day),
+            RecordKind::Calendar => Ok(Record::Calendar(fields.figures(ranges)?)),
+            RecordKind::Delay => Ok(Record::Delay(fields.figures(ranges)?)),
+            RecordKind::Pipeline => Ok(Record::Pipeline(fields.figures(ranges)?)),
+            RecordKind::RootStage => Ok(Record::RootStage(fields.figures(ranges)?)),
+            RecordKind::Assembly => Ok(Record::Assembly(fields.figures(ranges)?)),
+            RecordKind::BucketStage => Ok(Record::BucketStage(fields.figures(ranges)?)),
+            RecordKind::Day => Ok(Record::Day(fields.figures(ranges)?)),
         }
     }
 }
