@@ -14,5 +14,5 @@ pub struct Assembling<L: Supplier, R: Supplier> {
     left: L,
     right: R,
     own: Kits,
-    ghost joined: { Joined (L.meaning left) (R.meaning right) own },
+    pub ghost joined: { Joined (L.meaning left) (R.meaning right) own },
 }

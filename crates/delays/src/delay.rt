@@ -13,5 +13,5 @@ pub mod supplying;
 pub struct Delaying<S: Supplier> {
     below: S,
     own: Transit,
-    ghost late: { Late (S.meaning below) own },
+    pub ghost late: { Late (S.meaning below) own },
 }

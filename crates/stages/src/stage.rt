@@ -14,5 +14,5 @@ pub mod supplying;
 pub struct Staging<S: Supplier> {
     below: S,
     own: Stock,
-    ghost tied: { Tied (S.meaning below) own },
+    pub ghost tied: { Tied (S.meaning below) own },
 }

@@ -22,7 +22,7 @@ impl<S: Supplier> Supplier for Delaying<S> {
     ghost enveloped = { λ s. tt };
 
     fn quote(&self) -> u8 {
-        self.below.quote() + self.own.delay
+        self.below.quote().saturating_add(self.own.delay)
     }
 
     fn limit(&self, k: u8) -> Option<u64> {
