@@ -20,6 +20,9 @@ taken-push : (orders : List ℕ) (events : List Event) (e : Event) → taken ord
 taken-push orders [] e = refl
 taken-push orders (x ∷ events) e = taken-push (after orders x) events e
 
+pub running_none : (t : Terms) (orders : List ℕ) (s : State) → Stands t orders s → Running t orders s [] s
+running_none t orders s v = record { history = λ rest z h. h; stands = v }
+
 pub running_more : (t : Terms) (orders : List ℕ) (s k m : State) (events : List Event) (e : Event) →
     Running t orders s events k → Shown t (taken orders events) k e m × Stands t (after (taken orders events) e) m →
     Running t orders s (events ++ e ∷ []) m

@@ -1,6 +1,6 @@
 -- A supplier that finds its refusals itself keeps the supplier's law.
-use Rattle.std.proofs.Common.{◌≡◌, ℕ, ◌+◌, ◌<◌, ◌≤◌, ltb, List, length, Some, None, Option, unwrap_or, refl, ap, ◌∙◌, arith}
-use Rattle.std.proofs.lemmas.Bool.{lt-ltb, cond-true}
+use Rattle.std.proofs.Common.{◌≡◌, ℕ, ◌+◌, ◌<◌, ◌≤◌, Bool, true, false, cond, ltb, List, length, Some, None, Option, unwrap_or, refl, ap, ◌∙◌, arith}
+use Rattle.std.proofs.lemmas.Bool.{ltb-true, ltb-false, lt-ltb, cond-true}
 use Rattle.figures.specs.Days.{horizon, most, near}
 use Rattle.figures.proofs.Totals.{near_value}
 use Rattle.supplier.specs.declared.fault.Cause.{Cause}
@@ -45,6 +45,15 @@ module _ (number quote : ℕ) (limit : ℕ → ℕ) (days : ℕ) (book : List �
     before = before;
     refusals = λ q. plain_refused q (finds number limit days book q) (finds_plain number limit days book q until);
   }
+
+-- limits that agree up to the horizon are told alike
+pub told_agree : (f g : ℕ → ℕ) (k : ℕ) → ((k : ℕ) → 1 ≤ k → k ≤ horizon → f k ≡ g k) → told_limit f k ≡ told_limit g k
+told_agree f g k h = go (ltb 0 k) refl (ltb horizon k) refl
+  where
+    go : (a : Bool) → ltb 0 k ≡ a → (b : Bool) → ltb horizon k ≡ b → cond a (cond b None (Some (f k))) None ≡ cond a (cond b None (Some (g k))) None
+    go false p b q = refl
+    go true p true q = refl
+    go true p false q = ap Some (h k (ltb-true 0 k p) (ltb-false horizon k q))
 
 -- a limit of 1 day to the horizon is told
 pub told_value : (limit : ℕ → ℕ) (k : ℕ) → 1 ≤ k → k ≤ horizon → unwrap_or (told_limit limit k) 0 ≡ limit k

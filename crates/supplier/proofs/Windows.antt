@@ -1,5 +1,5 @@
 -- When a window is the first that an order breaks, and when none is.
-use Rattle.std.proofs.Common.{◌≡◌, ℕ, zero, suc, ◌+◌, ◌<◌, ◌≤◌, ltb, List, ◌∷◌, get_or, Some, None, Option, sym, refl, ap, ◌∙◌, subst, zero-le, add-one, arith}
+use Rattle.std.proofs.Common.{◌≡◌, ℕ, zero, suc, ◌+◌, ◌-◌, ◌<◌, ◌≤◌, ltb, List, ◌∷◌, get_or, Some, None, Option, sym, refl, ap, ◌∙◌, subst, zero-le, add-one, arith}
 use Rattle.std.specs.Option.{option_map}
 use Rattle.std.proofs.lemmas.Bool.{ltb-true, ltb-false, lt-ltb, le-ltb}
 use Rattle.figures.specs.Days.{for_days, horizon, most, window}
@@ -74,3 +74,8 @@ limit-grows bounds g zero l h = absurd (omega arith)
 limit-grows bounds g (suc k) l h =
     let e : suc k + 1 ≡ suc (k + 1) = omega arith in
     subst (λ n. get_or bounds k 0 ≤ for_days bounds n) (sym e) (g k (omega arith))
+
+-- an order, and the same order behind a newer one
+pub behind : (q : ℕ) (book : List ℕ) (i : ℕ) → 1 ≤ i → get_or book (i - 1) 0 ≡ get_or (q ∷ book) i 0
+behind q book zero h = absurd (omega arith)
+behind q book (suc i) h = let e : suc i - 1 ≡ i = omega arith in ap (λ j. get_or book j 0) e
