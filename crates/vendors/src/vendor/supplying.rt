@@ -41,10 +41,12 @@ impl<T: Terms> Supplier for Vendor<T> {
         (i == 0).then(|| self.source.line(self.terms.kind()))
     }
 
+    #[tactic(auto, using(supplier::proofs::Finders::finds_agree))]
     fn trial(&self, q: u64) -> Option<Fault> {
         self.source.ledger.refusal(q)
     }
 
+    #[tactic(auto, using(crate::specs::Serving::vendor_day))]
     fn day(&mut self, q: u64) -> Result<u64, Fault>
         ensures answers { Day (vendor_layout (T.kind self.old.terms) self.old.source.ledger.number self.old.source.quote)
             (vendor_of (T.kind self.old.terms) (T.limit self.old.terms) self.old.source) q result
