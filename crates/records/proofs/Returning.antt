@@ -1,5 +1,5 @@
 -- A record's line is read as that record.
-use Rattle.std.proofs.Common.{◌≡◌, ℕ, ◌+◌, ◌^◌, ◌<◌, ◌≤◌, List, [], ◌∷◌, ◌++◌, length, get_or, Ok, Err, decimal, Result, sym, refl, ap, ◌∙◌, subst, ⊎_elim, arith}
+use Rattle.std.proofs.Common.{◌≡◌, ℕ, ◌+◌, ◌^◌, ◌<◌, ◌≤◌, List, ◌∷◌, ◌++◌, length, get_or, Ok, Err, decimal, Result, sym, refl, ap, ◌∙◌, subst, ⊎_elim, arith}
 use Rattle.std.proofs.lemmas.List.{append_cancel_left, length-append, get_or-append-add}
 use Rattle.figures.specs.declared.ranges.Range.{Range}
 use Rattle.figures.specs.Ranges.{Within, missing}
@@ -44,10 +44,6 @@ some_field kind.RootStage = omega arith
 some_field kind.Assembly = omega arith
 some_field kind.BucketStage = omega arith
 some_field kind.Day = omega arith
-
-cancel : (m a b : List ℕ) → m ++ a ≡ m ++ b → a ≡ b
-cancel [] a b e = e
-cancel (x ∷ m) a b e = cancel m a b (let h : m ++ a ≡ m ++ b = cc in h)
 
 -- what the text after the mark tells, the line tells
 pub line_read : (due : RecordKind) (n : ℕ) (line text : List ℕ) (r : Result Record RecordFault) → TakenApart due line text → TextRead due n text r → RecordRead due n line r
