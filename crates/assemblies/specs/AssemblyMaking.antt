@@ -6,10 +6,10 @@ use Rattle.supplier.specs.Numbers.{numbers}
 use Rattle.supplier.specs.Orders.{no_orders}
 use Rattle.supplier.specs.Books.{orders_of}
 use Rattle.supplier.specs.Meaning.{Meaning}
-use Rattle.supplier.specs.declared.supplier.Supplier.{Ghosts}
 use Rattle.layers.specs.Questions.{Asked}
 use Rattle.assemblies.specs.declared.kits.Kits.{Kits}
 use Rattle.assemblies.specs.declared.assembly.Assembling.{Assembling}
+use Rattle.assemblies.specs.Assemblies.{Joined}
 
 -- the range of the parts of one side that a kit takes
 abbrev pub parts : Range
@@ -38,7 +38,9 @@ pub record Unkitted (number a b : ℕ) (own : Kits) : Type 0 where
   pub undelivered : own.delivered ≡ 0
 
 -- an assembly at work over these suppliers, before the first day
-pub record AssemblyNew {L R : Type 0} (gl : Ghosts L) (gr : Ghosts R) (left : L) (right : R) (number a b : ℕ) (w : Assembling L R gl gr) : Type 0 where
+pub record AssemblyNew {L R : Type 0} (okl : L → Type 0) (okr : R → Type 0) (ml : L → Meaning) (mr : R → Meaning) (left : L) (right : R) (number a b : ℕ)
+    (w : Assembling L R) : Type 0 where
   pub over_left : w.left ≡ left
   pub over_right : w.right ≡ right
   pub unkitted : Unkitted number a b w.own
+  pub tied : okl w.left × okr w.right × Joined (ml w.left) (mr w.right) w.own

@@ -1,6 +1,4 @@
 // An assembly at work. What it does as a supplier stands in assembly/.
-ghost use Rattle.assemblies.specs.Assemblies.{Joined};
-
 use crate::kits::Kits;
 use supplier::Supplier;
 
@@ -14,5 +12,4 @@ pub struct Assembling<L: Supplier, R: Supplier> {
     left: L,
     right: R,
     own: Kits,
-    pub ghost joined: { Joined (L.meaning left) (R.meaning right) own },
 }

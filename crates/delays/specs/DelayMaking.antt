@@ -7,10 +7,10 @@ use Rattle.supplier.specs.Numbers.{numbers}
 use Rattle.supplier.specs.Orders.{no_orders}
 use Rattle.supplier.specs.Books.{orders_of}
 use Rattle.supplier.specs.Meaning.{Meaning}
-use Rattle.supplier.specs.declared.supplier.Supplier.{Ghosts}
 use Rattle.layers.specs.Questions.{Asked}
 use Rattle.delays.specs.declared.transit.Transit.{Transit}
 use Rattle.delays.specs.declared.delay.Delaying.{Delaying}
+use Rattle.delays.specs.Delays.{Late}
 
 -- the ranges of the number and the days
 abbrev pub delay_ranges : List Range
@@ -33,6 +33,7 @@ pub record Fresh (number delay : ℕ) (own : Transit) : Type 0 where
   pub delivered : own.delivered ≡ 0
 
 -- a delay at work over this supplier, before the first day
-pub record DelayNew {S : Type 0} (supplier : Ghosts S) (below : S) (number delay : ℕ) (w : Delaying S supplier) : Type 0 where
+pub record DelayNew {S : Type 0} (valid : S → Type 0) (meaning : S → Meaning) (below : S) (number delay : ℕ) (w : Delaying S) : Type 0 where
   pub over : w.below ≡ below
   pub fresh : Fresh number delay w.own
+  pub tied : valid w.below × Late (meaning w.below) w.own

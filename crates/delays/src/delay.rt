@@ -1,6 +1,4 @@
 // A delay at work. Its question and making, and what it does as a supplier, stand in delay/.
-ghost use Rattle.delays.specs.Delays.{Late};
-
 use crate::transit::Transit;
 use supplier::Supplier;
 
@@ -13,5 +11,4 @@ pub mod supplying;
 pub struct Delaying<S: Supplier> {
     below: S,
     own: Transit,
-    pub ghost late: { Late (S.meaning below) own },
 }

@@ -18,6 +18,8 @@ pub enum Layer<W: Supplier, B> {
 }
 
 impl<W: Supplier, B> Supplier for Layer<W, B> {
+    ghost valid = { by_layer W.Supplier.valid (λ _. Unit {0}) };
+
     ghost meaning = { by_layer W.Supplier.meaning idle_meaning };
 
     ghost layout = { by_layer W.Supplier.layout idle_layout };
@@ -27,13 +29,13 @@ impl<W: Supplier, B> Supplier for Layer<W, B> {
     ghost envelope = { by_layer W.Supplier.envelope (λ _. None) };
 
     ghost sound = { elim [
-      | Working w ↦ W.Supplier.sound w
-      | Idle i b ↦ vendor_sound i.terms.kind nothing i.source i.tells
+      | Working w ↦ λ v. W.Supplier.sound w v
+      | Idle i b ↦ λ v. vendor_sound i.terms.kind nothing i.source i.tells
     ] };
 
-    ghost shelved = { elim [ Working w ↦ W.Supplier.shelved w | Idle i b ↦ tt ] };
+    ghost shelved = { elim [ Working w ↦ λ v. W.Supplier.shelved w v | Idle i b ↦ λ v. tt ] };
 
-    ghost enveloped = { elim [ Working w ↦ W.Supplier.enveloped w | Idle i b ↦ tt ] };
+    ghost enveloped = { elim [ Working w ↦ λ v. W.Supplier.enveloped w v | Idle i b ↦ λ v. tt ] };
 
     // Two arms a method: a `dyn Supplier` may not be handed out, and a macro would only hide them.
     fn quote(&self) -> u8 {

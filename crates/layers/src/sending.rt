@@ -8,14 +8,15 @@ use supplier::Supplier;
 
 /// Sends an order below, and tells what is received: nothing where it is refused.
 pub fn send<S: Supplier>(below: &mut S, q: u64) -> u64
-    ensures taken { (S.Supplier.meaning below.old).service.refusal q ≡ None
+    ensures stays { S.Supplier.valid below.old → S.Supplier.valid below.new }
+    ensures taken { S.Supplier.valid below.old → (S.Supplier.meaning below.old).service.refusal q ≡ None
         → (result ≡ due (S.Supplier.meaning below.old).service.quote (S.Supplier.meaning below.old).service.book q)
         × Taken (S.Supplier.meaning below.old).service q (S.Supplier.meaning below.new).service
         × Laid (S.Supplier.layout below.old (q ∷ (S.Supplier.meaning below.old).service.book)) (S.Supplier.meaning below.new).sheet }
-    ensures refused { IsSome ((S.Supplier.meaning below.old).service.refusal q)
+    ensures refused { S.Supplier.valid below.old → IsSome ((S.Supplier.meaning below.old).service.refusal q)
         → (result ≡ 0) × (S.Supplier.meaning below.new ≡ S.Supplier.meaning below.old) }
-    ensures lays { S.Supplier.layout below.new ≡ S.Supplier.layout below.old }
-    ensures stocks { figures_of (S.Supplier.shelves below.new) ≡ figures_of (S.Supplier.shelves below.old) }
+    ensures lays { S.Supplier.valid below.old → S.Supplier.layout below.new ≡ S.Supplier.layout below.old }
+    ensures stocks { S.Supplier.valid below.old → figures_of (S.Supplier.shelves below.new) ≡ figures_of (S.Supplier.shelves below.old) }
 {
     below.day(q).unwrap_or(0)
 }

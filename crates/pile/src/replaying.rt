@@ -12,9 +12,10 @@ use supplier::Supplier;
 /// Makes one call, and tells it with its answer.
 fn answer<S: Supplier>(supplier: &mut S, call: Call) -> Event
     ensures call { asked result ≡ call }
-    ensures answered { Answered (S.layout supplier.old) (state_of S.Supplier supplier.old) result (state_of S.Supplier supplier.new) }
-    ensures lays { S.layout supplier.new ≡ S.layout supplier.old }
-    ensures stocks { figures_of (S.shelves supplier.new) ≡ figures_of (S.shelves supplier.old) }
+    ensures stays { S.valid supplier.old → S.valid supplier.new }
+    ensures answered { S.valid supplier.old → Answered (S.layout supplier.old) (state_of S.Supplier supplier.old) result (state_of S.Supplier supplier.new) }
+    ensures lays { S.valid supplier.old → S.layout supplier.new ≡ S.layout supplier.old }
+    ensures stocks { S.valid supplier.old → figures_of (S.shelves supplier.new) ≡ figures_of (S.shelves supplier.old) }
 {
     // A call is told with its answer, which a closure could not be.
     match call {
@@ -36,9 +37,10 @@ pub fn replay<S: Supplier>(
 ) -> Result<Vec<Event>, AllocError>
     ensures each { IfOk result (λ v. map asked v.items ≡ calls.now) }
     ensures unmade { OnErr result (supplier.new ≡ supplier.old) }
-    ensures goes_on { (orders : List ℕ) → Stands (terms_of S.Supplier supplier.old) orders (state_of S.Supplier supplier.old)
+    ensures stays { S.valid supplier.old → S.valid supplier.new }
+    ensures goes_on { S.valid supplier.old → (orders : List ℕ) → Stands (terms_of S.Supplier supplier.old) orders (state_of S.Supplier supplier.old)
         → IfOk result (λ v. Run (terms_of S.Supplier supplier.old) orders (state_of S.Supplier supplier.old) calls.now v.items (state_of S.Supplier supplier.new)) }
-    ensures keeps { (S.meaning supplier.old).service.days ≡ 0
+    ensures keeps { S.valid supplier.old → (S.meaning supplier.old).service.days ≡ 0
         → IfOk result (λ v. Kept (terms_of S.Supplier supplier.old) (S.envelope supplier.old) (state_of S.Supplier supplier.old) calls.now v.items (state_of S.Supplier supplier.new)) }
 {
     let mut events = Vec::with_capacity(heap, calls.len())?;

@@ -7,11 +7,10 @@ use Rattle.supplier.specs.Numbers.{numbers}
 use Rattle.supplier.specs.Orders.{no_orders}
 use Rattle.supplier.specs.Books.{orders_of}
 use Rattle.supplier.specs.Meaning.{Meaning}
-use Rattle.supplier.specs.declared.supplier.Supplier.{Ghosts}
 use Rattle.layers.specs.Questions.{Asked}
 use Rattle.stages.specs.declared.stock.Stock.{Stock}
 use Rattle.stages.specs.declared.stage.Staging.{Staging}
-use Rattle.stages.specs.Stages.{book_of}
+use Rattle.stages.specs.Stages.{Tied, book_of}
 
 -- a table tells a function up to the horizon
 abbrev pub Copies : (ℕ → ℕ) → List ℕ → Type 0
@@ -55,7 +54,8 @@ pub record Stocked (number : ℕ) (table : List ℕ) (process quote base : ℕ) 
   pub delivered : own.delivered ≡ 0
 
 -- a stage at work over this supplier, before the first day
-pub record StageNew {S : Type 0} (supplier : Ghosts S) (below : S) (bound : ℕ → ℕ) (number process quote base : ℕ) (w : Staging S supplier) : Type 0 where
+pub record StageNew {S : Type 0} (valid : S → Type 0) (meaning : S → Meaning) (below : S) (bound : ℕ → ℕ) (number process quote base : ℕ) (w : Staging S) : Type 0 where
   pub over : w.below ≡ below
   pub bounds : Copies bound w.own.ledger.limits.bounds
   pub stocked : Stocked number w.own.ledger.limits.bounds process quote base w.own
+  pub tied : valid w.below × Tied (meaning w.below) w.own

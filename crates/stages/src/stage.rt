@@ -1,6 +1,4 @@
 // A stage at work. Its question and making, and what it does as a supplier, stand in stage/.
-ghost use Rattle.stages.specs.Stages.{Tied};
-
 use crate::stock::Stock;
 use supplier::Supplier;
 
@@ -14,5 +12,4 @@ pub mod supplying;
 pub struct Staging<S: Supplier> {
     below: S,
     own: Stock,
-    pub ghost tied: { Tied (S.meaning below) own },
 }

@@ -10,8 +10,11 @@ use crate::line::Line;
 
 /// Takes orders day by day, and delivers each on the quoted day.
 ///
-/// What ties a layer to what lies below it is kept by its type.
+/// Every promise is made of a valid supplier. Each making gives a valid one, and a day keeps it valid.
 pub trait Supplier {
+    /// What ties a layer to what lies below it; a vendor is always valid, and need not say so.
+    ghost valid: { Self → Type 0 } = { λ _. Unit {0} };
+
     ghost meaning: { Self → Meaning };
 
     /// How the sheet follows from the orders taken; it never changes. It need not be told.
@@ -25,37 +28,38 @@ pub trait Supplier {
 
     /// The days from an order to its delivery.
     fn quote(&self) -> u8
-        ensures { result ≡ (meaning self.now).service.quote };
+        ensures { valid self.now → result ≡ (meaning self.now).service.quote };
 
     /// The most pieces of k days; absent for no days and for more than the horizon.
     fn limit(&self, k: u8) -> Option<u64>
-        ensures { result ≡ told_limit (meaning self.now).service.limit k };
+        ensures { valid self.now → result ≡ told_limit (meaning self.now).service.limit k };
 
     /// The days taken.
     fn days(&self) -> u32
-        ensures { result ≡ (meaning self.now).service.days };
+        ensures { valid self.now → result ≡ (meaning self.now).service.days };
 
     /// The number of lines of the sheet.
     fn lines(&self) -> usize
-        ensures { result ≡ length (meaning self.now).sheet };
+        ensures { valid self.now → result ≡ length (meaning self.now).sheet };
 
     /// The line with i lines above it; absent past the end.
     fn line(&self, i: usize) -> Option<Line>
-        ensures { result ≡ slice_get (meaning self.now).sheet i };
+        ensures { valid self.now → result ≡ slice_get (meaning self.now).sheet i };
 
     /// The refusal that a day with the order q would get, or none.
     fn trial(&self, q: u64) -> Option<Fault>
-        ensures { result ≡ (meaning self.now).service.refusal q };
+        ensures { valid self.now → result ≡ (meaning self.now).service.refusal q };
 
     /// Takes a day with the order q and answers the order due, or refuses it and changes nothing.
     fn day(&mut self, q: u64) -> Result<u64, Fault>
-        ensures answers { Day (layout self.old) (meaning self.old) q result (meaning self.new) }
-        ensures lays { layout self.new ≡ layout self.old }
-        ensures stocks { figures_of (shelves self.new) ≡ figures_of (shelves self.old) };
+        ensures stays { valid self.old → valid self.new }
+        ensures answers { valid self.old → Day (layout self.old) (meaning self.old) q result (meaning self.new) }
+        ensures lays { valid self.old → layout self.new ≡ layout self.old }
+        ensures stocks { valid self.old → figures_of (shelves self.new) ≡ figures_of (shelves self.old) };
 
-    ghost sound: { (s : Self) → Sound (meaning s) };
+    ghost sound: { (s : Self) → valid s → Sound (meaning s) };
 
-    ghost shelved: { (s : Self) → AllByRecursion (Shelved (meaning s)) (shelves s) };
+    ghost shelved: { (s : Self) → valid s → AllByRecursion (Shelved (meaning s)) (shelves s) };
 
-    ghost enveloped: { (s : Self) → IfSome (envelope s) (Enveloped (meaning s) (shelves s)) };
+    ghost enveloped: { (s : Self) → valid s → IfSome (envelope s) (Enveloped (meaning s) (shelves s)) };
 }

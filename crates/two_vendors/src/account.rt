@@ -20,7 +20,7 @@ impl<S: Supplier> Account<S> {
     pub fn open(supplier: S) -> Self
         ensures same { result.supplier ≡ supplier }
         ensures empty { (result.ordered ≡ 0) × (result.delivered ≡ 0) }
-        ensures balanced { (S.meaning supplier).service.days ≡ 0
+        ensures balanced { S.valid supplier → (S.meaning supplier).service.days ≡ 0
             → Balanced (S.meaning result.supplier).service result.ordered result.delivered }
     {
         Account {
@@ -32,10 +32,13 @@ impl<S: Supplier> Account<S> {
 
     /// Takes a day with the order q, and counts the order and the delivery.
     pub fn day(&mut self, q: u64) -> Result<u64, Fault>
-        ensures answers { Day (S.layout self.old.supplier) (S.meaning self.old.supplier) q result (S.meaning self.new.supplier) }
-        ensures lays { S.layout self.new.supplier ≡ S.layout self.old.supplier }
+        ensures stays { S.valid self.old.supplier → S.valid self.new.supplier }
+        ensures answers { S.valid self.old.supplier
+            → Day (S.layout self.old.supplier) (S.meaning self.old.supplier) q result (S.meaning self.new.supplier) }
+        ensures lays { S.valid self.old.supplier → S.layout self.new.supplier ≡ S.layout self.old.supplier }
         ensures counted { Counted self.old.ordered self.old.delivered q result self.new.ordered self.new.delivered }
-        ensures balanced { Balanced (S.meaning self.old.supplier).service self.old.ordered self.old.delivered
+        ensures balanced { S.valid self.old.supplier
+            → Balanced (S.meaning self.old.supplier).service self.old.ordered self.old.delivered
             → Balanced (S.meaning self.new.supplier).service self.new.ordered self.new.delivered }
     {
         let delivery = self.supplier.day(q)?;

@@ -26,7 +26,7 @@ impl<L: Supplier, R: Supplier> Assembling<L, R> {
     /// The refusal of kits of so many parts of these two suppliers, or none.
     pub fn question(left: &L, right: &R, number: u64, a: u64, b: u64) -> Option<Refusal>
         ensures ranged { IfNone result (AllIn assembly_ranges (number ∷ a ∷ b ∷ [])) }
-        ensures asked { AssemblyAsked (L.meaning left.now) (R.meaning right.now) number a b result }
+        ensures asked { L.valid left.now → R.valid right.now → AssemblyAsked (L.meaning left.now) (R.meaning right.now) number a b result }
     {
         // One test after the other, each with its refusal: a chain of `or_else` says no more.
         if let Some(refusal) = range_refusal(&[number, a, b], &RANGES) {
@@ -40,8 +40,8 @@ impl<L: Supplier, R: Supplier> Assembling<L, R> {
 
     /// An assembly of these two suppliers; an idle layer where the question refuses it.
     pub fn over(left: L, right: R, number: u64, a: u64, b: u64) -> Assembly<L, R>
-        ensures { Given (AssemblyPasses (L.meaning left) (R.meaning right) number a b)
-            (AssemblyNew L.Supplier R.Supplier left right number a b) Kind.Assembly (named number) (left, right) result }
+        ensures { L.valid left → R.valid right → Given (AssemblyPasses (L.meaning left) (R.meaning right) number a b)
+            (AssemblyNew L.valid R.valid L.meaning R.meaning left right number a b) Kind.Assembly (named number) (left, right) result }
     {
         if Assembling::question(&left, &right, number, a, b).is_some() {
             return Layer::resting(number, Kind::Assembly, (left, right));

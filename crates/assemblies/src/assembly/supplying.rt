@@ -1,6 +1,6 @@
 // An assembly at work as a supplier.
 ghost use Rattle.std.specs.Prelude.{◌+◌, ◌++◌, map, length};
-ghost use Rattle.assemblies.specs.Assemblies.{assembled, assembly_layout, scaled};
+ghost use Rattle.assemblies.specs.Assemblies.{assembled, assembly_layout, scaled, Joined};
 ghost use Rattle.assemblies.specs.AssemblyLaws.{assembled_sound, assembled_shelved};
 
 use crate::assembly::Assembling;
@@ -8,19 +8,21 @@ use layers::{carry, lines_over, send};
 use supplier::{Broken, Fault, Kind, Line, MOST_LINES, Supplier, TERM};
 
 impl<L: Supplier, R: Supplier> Supplier for Assembling<L, R> {
+    ghost valid = { λ s. L.valid s.left × R.valid s.right × Joined (L.meaning s.left) (R.meaning s.right) s.own };
+
     ghost meaning = { λ s. assembled s.own (L.meaning s.left) (R.meaning s.right) };
 
     ghost layout = { λ s. assembly_layout s.own.number s.own.left.per_kit s.own.right.per_kit (L.meaning s.left).service.quote (R.meaning s.right).service.quote (L.layout s.left) (R.layout s.right) };
 
     ghost shelves = { λ s. map (scaled s.own.left.per_kit 1) (L.shelves s.left) ++ map (scaled s.own.right.per_kit (1 + length (L.meaning s.left).sheet)) (R.shelves s.right) };
 
-    ghost sound = { λ s. assembled_sound s.own (L.meaning s.left) (R.meaning s.right) s.joined (L.sound s.left) (R.sound s.right) };
+    ghost sound = { λ s v. assembled_sound s.own (L.meaning s.left) (R.meaning s.right) v.2 (L.Supplier.sound s.left v.0) (R.Supplier.sound s.right v.1) };
 
-    ghost shelved = { λ s.
+    ghost shelved = { λ s v.
         assembled_shelved s.own (L.meaning s.left) (R.meaning s.right) (L.shelves s.left) (R.shelves s.right)
-        s.joined (L.shelved s.left) (R.shelved s.right) };
+        v.2 (L.Supplier.shelved s.left v.0) (R.Supplier.shelved s.right v.1) };
 
-    ghost enveloped = { λ _. tt };
+    ghost enveloped = { λ s v. tt };
 
     fn quote(&self) -> u8 {
         self.left.quote().max(self.right.quote())

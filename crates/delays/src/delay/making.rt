@@ -37,7 +37,7 @@ impl<S: Supplier> Delaying<S> {
     /// The refusal of a delay of so many days over this supplier, or none.
     pub fn question(below: &S, number: u64, delay: u64) -> Option<Refusal>
         ensures ranged { IfNone result (AllIn delay_ranges (number ∷ delay ∷ [])) }
-        ensures asked { DelayAsked (S.meaning below.now) number delay result }
+        ensures asked { S.valid below.now → DelayAsked (S.meaning below.now) number delay result }
     {
         // One test after the other, each with its refusal: a chain of `or_else` says no more.
         if let Some(refusal) = range_refusal(&[number, delay], &RANGES) {
@@ -54,8 +54,8 @@ impl<S: Supplier> Delaying<S> {
 
     /// A delay of so many days over this supplier; an idle layer where the question refuses it.
     pub fn over(below: S, number: u64, delay: u64) -> Delay<S>
-        ensures { Given (DelayPasses (S.meaning below) number delay)
-            (DelayNew S.Supplier below number delay) Kind.Delay (named number) below result }
+        ensures { S.valid below → Given (DelayPasses (S.meaning below) number delay)
+            (DelayNew S.valid S.meaning below number delay) Kind.Delay (named number) below result }
     {
         if Delaying::question(&below, number, delay).is_some() {
             return Layer::resting(number, Kind::Delay, below);

@@ -1,7 +1,7 @@
 // A delay at work as a supplier.
 ghost use Rattle.std.specs.Prelude.{map};
 ghost use Rattle.layers.specs.Sheets.{later};
-ghost use Rattle.delays.specs.Delays.{delayed, delay_layout};
+ghost use Rattle.delays.specs.Delays.{delayed, delay_layout, Late};
 ghost use Rattle.delays.specs.DelayLaws.{delayed_sound, delayed_shelved};
 
 use crate::delay::Delaying;
@@ -9,17 +9,19 @@ use layers::{carry, line_below, lines_over};
 use supplier::{Fault, Kind, Line, Supplier};
 
 impl<S: Supplier> Supplier for Delaying<S> {
+    ghost valid = { λ s. S.valid s.below × Late (S.meaning s.below) s.own };
+
     ghost meaning = { λ s. delayed s.own (S.meaning s.below) };
 
     ghost layout = { λ s. delay_layout s.own.number s.own.delay (S.meaning s.below).service.quote (S.layout s.below) };
 
     ghost shelves = { λ s. map later (S.shelves s.below) };
 
-    ghost sound = { λ s. delayed_sound s.own (S.meaning s.below) s.late (S.Supplier.sound s.below) };
+    ghost sound = { λ s v. delayed_sound s.own (S.meaning s.below) v.1 (S.Supplier.sound s.below v.0) };
 
-    ghost shelved = { λ s. delayed_shelved s.own (S.meaning s.below) (S.shelves s.below) (S.Supplier.shelved s.below) };
+    ghost shelved = { λ s v. delayed_shelved s.own (S.meaning s.below) (S.shelves s.below) (S.Supplier.shelved s.below v.0) };
 
-    ghost enveloped = { λ s. tt };
+    ghost enveloped = { λ s v. tt };
 
     fn quote(&self) -> u8 {
         self.below.quote().saturating_add(self.own.delay)

@@ -18,7 +18,7 @@ pub(crate) fn copied<E: Envelope>(envelope: &E) -> Limits
 
 /// Whether every limit is within the limit of the same days below.
 pub(crate) fn under<S: Supplier>(limits: &Limits, below: &S) -> bool
-    ensures { MatchBool result
+    ensures { S.valid below.now → MatchBool result
         (Under (for_days limits.now.bounds) (S.meaning below.now).service.limit)
         (Under (for_days limits.now.bounds) (S.meaning below.now).service.limit → ⊥) }
 {

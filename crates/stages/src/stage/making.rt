@@ -61,7 +61,7 @@ impl<S: Supplier> Staging<S> {
         envelope: &E,
     ) -> Option<Refusal>
         ensures ranged { IfNone result (AllIn stage_ranges (number ∷ process ∷ quote ∷ base ∷ [])) }
-        ensures asked { StageAsked (S.meaning below.now) (E.meaning envelope.now).bound number process quote base result }
+        ensures asked { S.valid below.now → StageAsked (S.meaning below.now) (E.meaning envelope.now).bound number process quote base result }
     {
         // One test after the other, each with its refusal: a chain of `or_else` says no more.
         if let Some(refusal) = range_refusal(&[number, process, quote, base], &RANGES) {
@@ -92,8 +92,8 @@ impl<S: Supplier> Staging<S> {
         base: u64,
         envelope: &E,
     ) -> Stage<S>
-        ensures { Given (StagePasses (S.meaning below) (E.meaning envelope.now).bound number process quote base)
-            (StageNew S.Supplier below (E.meaning envelope.now).bound number process quote base) Kind.Stage (named number) below result }
+        ensures { S.valid below → Given (StagePasses (S.meaning below) (E.meaning envelope.now).bound number process quote base)
+            (StageNew S.valid S.meaning below (E.meaning envelope.now).bound number process quote base) Kind.Stage (named number) below result }
     {
         if Staging::question(&below, number, process, quote, base, envelope).is_some() {
             return Layer::resting(number, Kind::Stage, below);

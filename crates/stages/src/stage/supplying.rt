@@ -1,7 +1,7 @@
 // A stage at work as a supplier.
 ghost use Rattle.std.specs.Prelude.{◌+◌, ◌∷◌, map, Some};
 ghost use Rattle.layers.specs.Sheets.{later};
-ghost use Rattle.stages.specs.Stages.{staged, stage_layout, own_shelf, bound_of};
+ghost use Rattle.stages.specs.Stages.{staged, stage_layout, own_shelf, bound_of, Tied};
 ghost use Rattle.stages.specs.StageLaws.{staged_sound, staged_shelved, staged_enveloped};
 
 use crate::stage::Staging;
@@ -9,6 +9,8 @@ use layers::{line_below, lines_over, send};
 use supplier::{Fault, Kind, Line, Supplier};
 
 impl<S: Supplier> Supplier for Staging<S> {
+    ghost valid = { λ s. S.valid s.below × Tied (S.meaning s.below) s.own };
+
     ghost meaning = { λ s. staged s.own (S.meaning s.below) };
 
     ghost layout = { λ s. stage_layout s.own.ledger.number s.own.base s.own.quote ((S.meaning s.below).service.quote + s.own.process) (S.layout s.below) };
@@ -17,11 +19,11 @@ impl<S: Supplier> Supplier for Staging<S> {
 
     ghost envelope = { λ s. Some (bound_of s.own) };
 
-    ghost sound = { λ s. staged_sound s.own (S.meaning s.below) };
+    ghost sound = { λ s v. staged_sound s.own (S.meaning s.below) };
 
-    ghost shelved = { λ s. staged_shelved s.own (S.meaning s.below) (S.shelves s.below) s.tied (S.Supplier.shelved s.below) };
+    ghost shelved = { λ s v. staged_shelved s.own (S.meaning s.below) (S.shelves s.below) v.1 (S.Supplier.shelved s.below v.0) };
 
-    ghost enveloped = { λ s. staged_enveloped s.own (S.meaning s.below) (map later (S.shelves s.below)) };
+    ghost enveloped = { λ s v. staged_enveloped s.own (S.meaning s.below) (map later (S.shelves s.below)) };
 
     fn quote(&self) -> u8 {
         self.own.quote

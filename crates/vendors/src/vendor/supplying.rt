@@ -15,11 +15,11 @@ impl<T: Terms> Supplier for Vendor<T> {
 
     ghost layout = { λ v. vendor_layout (T.kind v.terms) v.source.ledger.number v.source.quote };
 
-    ghost sound = { λ v. vendor_sound (T.kind v.terms) (T.limit v.terms) v.source v.tells };
+    ghost sound = { λ v _. vendor_sound (T.kind v.terms) (T.limit v.terms) v.source v.tells };
 
-    ghost shelved = { λ v. tt };
+    ghost shelved = { λ v _. tt };
 
-    ghost enveloped = { λ v. tt };
+    ghost enveloped = { λ v _. tt };
 
     fn quote(&self) -> u8 {
         self.source.quote

@@ -27,12 +27,15 @@ loop-call-preserved g c =
     record {
       told = let x = pushed.len in let y = inv.told in omega arith;
       room = let x = pushed.capacity in let y = inv.room in omega arith;
-      lays = did.lays ∙ inv.lays;
-      running = λ orders stands.
-          let r = inv.running orders stands in
+      stays = λ v. did.stays (inv.stays v);
+      lays = λ v. did.lays (inv.stays v) ∙ inv.lays v;
+      running = λ v orders stands.
+          let o = inv.stays v in
+          let k = did.stays o in
+          let r = inv.running v orders stands in
           let p = shown t _ (state_of supplier a) (state_of supplier b)
-          r.stands (g.met.S.Supplier.sound a) (g.met.S.Supplier.sound b) (g.met.S.Supplier.shelved b) did.stocks
-          (supplier.layout a) e inv.lays did.answered in
+          r.stands (g.met.S.Supplier.sound a o) (g.met.S.Supplier.sound b k) (g.met.S.Supplier.shelved b k) (did.stocks o)
+          (supplier.layout a) e (inv.lays v) (did.answered o) in
           let x = running_more t orders (state_of supplier first) _ (state_of supplier b) es e r p in
           subst (λ (xs : List Event). Running t orders (state_of supplier first) xs (state_of supplier b)) (sym pushed.items) x;
       asked = ap (map asked) pushed.items ∙ asked-push (take i calls) _ es e inv.asked did.call ∙ sym (take_more calls i (Trial 0) l);
@@ -54,15 +57,16 @@ returns g c =
     record {
       each = each;
       unmade = tt;
-      goes_on = λ orders stands. running_all t orders s calls events k each (inv.running orders stands);
-      keeps = λ n.
-          let sound = g.met.S.Supplier.sound a in
-          let shelved = g.met.S.Supplier.shelved a in
+      stays = inv.stays;
+      goes_on = λ v orders stands. running_all t orders s calls events k each (inv.running v orders stands);
+      keeps = λ v n.
+          let sound = g.met.S.Supplier.sound a v in
+          let shelved = g.met.S.Supplier.shelved a v in
           let stands = stands_new m (supplier.layout a) placed sound shelved n in
-          let run = running_all t [] s calls events k each (inv.running [] stands) in
+          let run = running_all t [] s calls events k each (inv.running v [] stands) in
           record {
             starts = stands;
             run = run;
-            top = summits m (supplier.layout a) placed (supplier.envelope a) calls events k sound shelved (g.met.S.Supplier.enveloped a) run;
+            top = summits m (supplier.layout a) placed (supplier.envelope a) calls events k sound shelved (g.met.S.Supplier.enveloped a v) run;
           };
     }

@@ -11,8 +11,9 @@ invariant-loop-call g l =
     record {
       told : vec_len l.events ≡ l.call-index;
       room : length l.calls ≤ vec_capacity l.events;
-      lays : supplier.layout l.supplier ≡ supplier.layout l.initial.supplier;
-      running : (orders : List ℕ) →
+      stays : supplier.valid l.initial.supplier → supplier.valid l.supplier;
+      lays : supplier.valid l.initial.supplier → supplier.layout l.supplier ≡ supplier.layout l.initial.supplier;
+      running : supplier.valid l.initial.supplier → (orders : List ℕ) →
           Stands (terms_of supplier l.initial.supplier) orders (state_of supplier l.initial.supplier) →
           Running (terms_of supplier l.initial.supplier) orders (state_of supplier l.initial.supplier) (vec_items l.events) (state_of supplier l.supplier);
       asked : map asked (vec_items l.events) ≡ take l.call-index l.calls;

@@ -5,7 +5,7 @@ use Rattle.stages.proofs.Conserving.{stage_conserves}
 use Rattle.stages.proofs.stage.Staging.goods.Goals as goal
 
 pub returns-clause-conserves : goal.returns-clause-conserves
-returns-clause-conserves g c =
+returns-clause-conserves g c tied =
     let s = c.args.self.now in
     let e : c.unwrap_or.result ≡ window s.own.process (orders_of s.own.works) = search rules in
-    stage_conserves (g.S.Supplier.meaning s.below) s.own (record { on_shelf = s.own.shelf; in_process = c.unwrap_or.result }) refl e s.tied
+    stage_conserves (g.S.Supplier.meaning s.below) s.own (record { on_shelf = s.own.shelf; in_process = c.unwrap_or.result }) refl e tied

@@ -10,26 +10,14 @@ use Rattle.stages.proofs.Opening.{tied_new}
 use Rattle.stages.proofs.stage.Staging.over.Goals as goal
 
 pub returns-then-is_some : goal.returns-then-is_some
-returns-then-is_some g c =
+returns-then-is_some g c v =
     let m = g.S.Supplier.meaning c.args.below in
     let V = (g.E.Envelope.meaning c.args.envelope.now).bound in
     let a = c.args in
     let never = never_asked stage_ranges (a.number ∷ a.process ∷ a.quote ∷ a.base ∷ []) (m.service.days ≡ 0)
     ((m.service.quote + a.process ≤ horizon) × (a.quote ≤ m.service.quote + a.process)) (Under V m.service.limit)
-    (V ((m.service.quote + a.process) - a.quote) ≤ a.base) c.question.result (search rules) c.question.ensures.asked in
+    (V ((m.service.quote + a.process) - a.quote) ≤ a.base) c.question.result (search rules) (c.question.ensures.asked v) in
     given_resting _ _ kind.Stage (named a.number) a.below c.resting.result never c.resting.ensures
-
-pub invariant_of-result : goal.invariant_of-result
-invariant_of-result g c =
-    let m = g.S.Supplier.meaning c.args.below in
-    let V = (g.E.Envelope.meaning c.args.envelope.now).bound in
-    let a = c.args in
-    let none : c.question.result ≡ None = search rules in
-    let p = subst (StageAsked m V a.number a.process a.quote a.base) none c.question.ensures.asked in
-    let n = c.kept_number.ensures ∙ named-kept a.number (p.0 0 (omega arith) (omega arith)) in
-    let own = c.stocked-own.result in
-    let named = subst (λ k. Stocked k c.copied.result.bounds a.process a.quote a.base own) n c.stocked-own.ensures in
-    record { tied = tied_new m V a.number a.process a.quote a.base c.copied.result.bounds own (g.met.S.Supplier.sound a.below) p c.copied.ensures named }
 
 pub stocked-own-requires-clause-small : goal.stocked-own-requires-clause-small
 stocked-own-requires-clause-small g c =
@@ -38,12 +26,12 @@ stocked-own-requires-clause-small g c =
     (p 3 (omega arith) (omega arith)).1
 
 pub returns : goal.returns
-returns g c =
+returns g c v =
     let m = g.S.Supplier.meaning c.args.below in
     let V = (g.E.Envelope.meaning c.args.envelope.now).bound in
     let a = c.args in
     let none : c.question.result ≡ None = search rules in
-    let p = subst (StageAsked m V a.number a.process a.quote a.base) none c.question.ensures.asked in
+    let p = subst (StageAsked m V a.number a.process a.quote a.base) none (c.question.ensures.asked v) in
     let n = c.kept_number.ensures ∙ named-kept a.number (p.0 0 (omega arith) (omega arith)) in
     let own = c.stocked-own.result in
     let e = c.stocked-own.ensures in
@@ -53,5 +41,6 @@ returns g c =
         over = refl;
         bounds = subst (Copies V) (sym e.bounds) c.copied.ensures;
         stocked = subst (λ t. Stocked a.number t a.process a.quote a.base own) (sym e.bounds) fresh;
+        tied = (v, tied_new m V a.number a.process a.quote a.base c.copied.result.bounds own (g.met.S.Supplier.sound a.below v) p c.copied.ensures fresh);
       },
     )

@@ -16,7 +16,7 @@ by_place bounds limit false h =
     λ under. let x = under (h.0 + 1) (omega arith) (let n = h.1 in omega arith) in let o = h.2 in omega (arith, ap (for_days bounds) (add-one h.0))
 
 pub returns : goal.returns
-returns g c =
+returns g c v =
     let b = c.args.limits.now.bounds in
     let limit = (g.S.Supplier.meaning c.args.below.now).service.limit in
     let h : MatchBool c.all.result ((i : ℕ) → i < horizon → get_or b i 0 ≤ limit (i + 1)) ((i : ℕ) × (i < horizon) × (limit (i + 1) < get_or b i 0)) = search rules in

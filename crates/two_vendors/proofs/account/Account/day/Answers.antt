@@ -9,12 +9,13 @@ returns g c =
     let did = c.in_ok-delivery.ensures in
     let after = (g.S.Supplier.meaning c.day.new.self).service in
     record {
+      stays = did.stays;
       answers = did.answers;
       lays = did.lays;
       counted = (c.saturating_add-self.ensures, c.saturating_add-self-2.ensures);
-      balanced = λ balanced.
-          let a = did.answers in
-          let steady = (g.met.S.Supplier.sound s.supplier).service in
+      balanced = λ v balanced.
+          let a = did.answers v in
+          let steady = (g.met.S.Supplier.sound s.supplier v).service in
           let d = c.in_ok-delivery.delivery in
           let n = balanced_day (g.S.Supplier.meaning s.supplier).service after c.args.q d s.ordered s.delivered steady a.0 a.1 a.2 balanced in
           let o : c.saturating_add-self.result ≡ s.ordered + c.args.q = omega (arith, n.ordered_fits, c.saturating_add-self.ensures) in

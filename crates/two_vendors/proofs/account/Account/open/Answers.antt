@@ -6,5 +6,5 @@ pub returns : goal.returns
 returns g c = record {
   same = refl;
   empty = (refl, refl);
-  balanced = λ new. balanced_open (g.S.Supplier.meaning c.args.supplier).service (g.met.S.Supplier.sound c.args.supplier).service new;
+  balanced = λ v new. balanced_open (g.S.Supplier.meaning c.args.supplier).service (g.met.S.Supplier.sound c.args.supplier v).service new;
 }

@@ -42,12 +42,12 @@ tried own L R q top read steady ne t o h =
     ∙ kits_later own.number own.days limit q (L.refusal (own.left.per_kit * q)) (R.refusal (own.right.per_kit * q)) ne (omega arith)
 
 pub returns : goal.returns
-returns g c =
+returns g c v =
     let s = c.args.self.now in
     let L = (g.L.Supplier.meaning s.left).service in
     let R = (g.R.Supplier.meaning s.right).service in
     let first = or_either c.trial.result c.or_else.result (R.refusal (cut s.own.right.per_kit c.args.q)) _ (λ p. search rules) c.or_else.ensures in
     let carried : c.map.result ≡ carries c.or_else.result = search rules in
-    let left = c.trial.ensures ∙ ap L.refusal c.wanted.ensures in
+    let left = c.trial.ensures v.0 ∙ ap L.refusal c.wanted.ensures in
     carried ∙ ap carries first ∙ ap (λ l. carries (either l (R.refusal (cut s.own.right.per_kit c.args.q)))) left
-    ∙ tried s.own L R c.args.q c.unwrap_or-top.result c.limit.result (g.met.L.Supplier.sound s.left).service c.if-self-eq-TERM.false c.unwrap_or-top.ensures c.limit.ensures c.if-q-top.false
+    ∙ tried s.own L R c.args.q c.unwrap_or-top.result c.limit.result (g.met.L.Supplier.sound s.left v.0).service c.if-self-eq-TERM.false c.unwrap_or-top.ensures (c.limit.ensures v) c.if-q-top.false

@@ -15,18 +15,18 @@ use Rattle.delays.proofs.Lateness.{taken-small, delay_line_step}
 use Rattle.delays.proofs.delay.supplying.DelayingSupplier.day.Goals as goal
 
 pub returns-in_err-received-clause-stocks : goal.returns-in_err-received-clause-stocks
-returns-in_err-received-clause-stocks g c =
-    figures-later (g.S.Supplier.shelves c.day.new.self) ∙ c.day.ensures.stocks ∙ sym (figures-later (g.S.Supplier.shelves c.args.self.now.below))
+returns-in_err-received-clause-stocks g c v =
+    figures-later (g.S.Supplier.shelves c.day.new.self) ∙ c.day.ensures.stocks v.0 ∙ sym (figures-later (g.S.Supplier.shelves c.args.self.now.below))
 
 pub returns-clause-stocks : goal.returns-clause-stocks
-returns-clause-stocks g c =
-    figures-later (g.S.Supplier.shelves c.day.new.self) ∙ c.day.ensures.stocks ∙ sym (figures-later (g.S.Supplier.shelves c.args.self.now.below))
+returns-clause-stocks g c v =
+    figures-later (g.S.Supplier.shelves c.day.new.self) ∙ c.day.ensures.stocks v.0 ∙ sym (figures-later (g.S.Supplier.shelves c.args.self.now.below))
 
-pub invariant_of-self-6 : goal.invariant_of-self-6
-invariant_of-self-6 g c =
+pub returns-clause-stays : goal.returns-clause-stays
+returns-clause-stays g c w =
     let s = c.args.self.now in
     let own = s.own in
-    let v = s.late in
+    let v = w.1 in
     let q = c.args.q in
     let m = g.S.Supplier.meaning s.below in
     let early = m.service.quote in
@@ -34,28 +34,28 @@ invariant_of-self-6 g c =
     let row = orders_of own.received in
     let received = c.in_ok-received.received in
     let taken : c.day.result ≡ Ok received = search rules in
-    let p = subst (λ r. Day (g.S.Supplier.layout s.below) m q r (g.S.Supplier.meaning c.day.new.self)) taken c.day.ensures.answers in
+    let p = subst (λ r. Day (g.S.Supplier.layout s.below) m q r (g.S.Supplier.meaning c.day.new.self)) taken (c.day.ensures.answers w.0) in
     let k = p.2 in
-    let steady = (g.met.S.Supplier.sound s.below).service in
+    let steady = (g.met.S.Supplier.sound s.below w.0).service in
     let little = taken-small m.service q steady p.0 in
     let few : received ≤ most = subst (λ n. n ≤ most) (sym p.1) (due-small early q book little v.small) in
-    let entry = taken-book received row (orders_of c.take.new.self) c.take.result c.take.ensures.answer c.take.ensures.after few in
-    record {
-      late = record {
+    let entry = taken-book received row (orders_of c.take.new.self) c.take.result c.take.ensures.answer c.take.ensures.after few in (
+      c.day.ensures.stays w.0,
+      record {
         near = subst (λ n. n + own.delay ≤ horizon) (sym k.quote) v.near;
         small = subst (λ (b : List ℕ). (j : ℕ) → get_or b j 0 ≤ most) (sym k.book) (pushed-small most horizon q book v.small little);
         coming = λ j l.
             ap (λ xs. get_or xs j 0) entry ∙ row_step early own.delay received q row book v.near p.1 v.coming j l
             ∙ (λ i. get_or (sym k.book i) (sym k.quote i + j) 0);
         last = ap (λ xs. get_or xs 0 0) (sym k.book);
-      };
-    }
+      },
+    )
 
 pub returns-clause-answers : goal.returns-clause-answers
-returns-clause-answers g c =
+returns-clause-answers g c w =
     let s = c.args.self.now in
     let own = s.own in
-    let v = s.late in
+    let v = w.1 in
     let q = c.args.q in
     let m = g.S.Supplier.meaning s.below in
     let after = g.S.Supplier.meaning c.day.new.self in
@@ -64,7 +64,7 @@ returns-clause-answers g c =
     let row = orders_of own.received in
     let received = c.in_ok-received.received in
     let taken : c.day.result ≡ Ok received = search rules in
-    let p = subst (λ r. Day (g.S.Supplier.layout s.below) m q r after) taken c.day.ensures.answers in
+    let p = subst (λ r. Day (g.S.Supplier.layout s.below) m q r after) taken (c.day.ensures.answers w.0) in
     let k = p.2 in
     let e : c.unwrap_or-due.result ≡ due (early + own.delay) book q =
     c.unwrap_or-due.ensures ∙ ap (λ o. unwrap_or o 0) c.due.ensures ∙ near_value own.delay (due own.delay row received) own.brief
