@@ -1,7 +1,10 @@
 // What a caller may build over the library: a struct that holds a pile over any supplier, and a supplier that is not always valid.
 ghost use Rattle.std.specs.Prelude.{◌≡◌, false};
 
+use assemblies::{Assembling, Assembly};
 use delays::{Delay, Delaying};
+use envelope::Bucket;
+use stages::{Stage, Staging};
 use std::test::Fail;
 use supplier::{Fault, Line, Supplier};
 use vendors::Pipeline;
@@ -12,7 +15,7 @@ pub struct Depot<S: Supplier> {
     pub pile: Delay<Delay<S>>,
 }
 
-/// A supplier that tells no quote where it is broken, and then keeps no promise.
+/// A supplier that tells a quote of 0 where it is broken, and then keeps no promise.
 #[derive(Drop)]
 pub struct Breakable<S: Supplier> {
     pub whole: S,
@@ -68,12 +71,41 @@ impl<S: Supplier> Supplier for Breakable<S> {
     }
 }
 
-/// Two delays over a supplier that may be broken.
-fn two_delays(broken: bool) -> Depot<Breakable<Pipeline>> {
+/// A delay over a valid supplier, which is valid.
+fn delay<S: Supplier>(below: S, number: u64, delay: u64) -> Delay<S>
+    ensures { S.valid below → ⟦<Delay<S> as Supplier>⟧.valid result }
+{
+    Delaying::over(below, number, delay)
+}
+
+/// An assembly of two valid suppliers, which is valid.
+fn assembly<L: Supplier, R: Supplier>(left: L, right: R) -> Assembly<L, R>
+    ensures { L.valid left → R.valid right → ⟦<Assembly<L, R> as Supplier>⟧.valid result }
+{
+    Assembling::over(left, right, 5, 1, 1)
+}
+
+/// A stage over a valid supplier, which is valid.
+fn stage<S: Supplier>(below: S, bucket: &Bucket) -> Stage<S>
+    ensures { S.valid below → ⟦<Stage<S> as Supplier>⟧.valid result }
+{
+    Staging::over(below, 6, 1, 0, 1_000, bucket)
+}
+
+/// A day of two delays over a valid supplier, which keeps them valid.
+fn day<S: Supplier>(depot: &mut Depot<S>, order: u64) -> Result<u64, Fault>
+    ensures { ⟦<Delay<Delay<S>> as Supplier>⟧.valid depot.old.pile → ⟦<Delay<Delay<S>> as Supplier>⟧.valid depot.new.pile }
+{
+    depot.pile.day(order)
+}
+
+/// Two delays over a supplier that may be broken; they are valid where it is not.
+fn two_delays(broken: bool) -> Depot<Breakable<Pipeline>>
+    ensures { broken ≡ false → ⟦<Delay<Delay<Breakable<Pipeline>>> as Supplier>⟧.valid result.pile }
+{
     let whole = Pipeline::new(1, 2, 8);
-    let below = Delaying::over(Breakable { whole, broken }, 2, 3);
     Depot {
-        pile: Delaying::over(below, 3, 4),
+        pile: delay(delay(Breakable { whole, broken }, 2, 3), 3, 4),
     }
 }
 
@@ -81,9 +113,9 @@ fn two_delays(broken: bool) -> Depot<Breakable<Pipeline>> {
 fn depot_days(rt: HostRuntime) -> Result<(), Fail> {
     let mut depot = two_delays(false);
     assert_eq!(rt; depot.pile.quote(), 9);
-    for day in 0..13u64 {
-        let due = if day < 9 { 0 } else { 8 };
-        assert_eq!(rt; depot.pile.day(8), Ok(due));
+    for t in 0..12u64 {
+        let due = if t < 9 { 0 } else { 8 };
+        assert_eq!(rt; day(&mut depot, 8), Ok(due));
     }
     Ok(())
 }
@@ -91,4 +123,14 @@ fn depot_days(rt: HostRuntime) -> Result<(), Fail> {
 #[test]
 fn depot_over_a_broken_supplier(rt: HostRuntime) {
     assert_eq!(rt; two_delays(true).pile.quote(), 7);
+}
+
+#[test]
+fn a_pile_of_layers(rt: HostRuntime) {
+    let left = delay(Pipeline::new(1, 2, 8), 2, 3);
+    let kits = assembly(left, delay(Pipeline::new(3, 1, 9), 4, 1));
+    assert_eq!(rt; kits.quote(), 5);
+    let pile = stage(kits, &Bucket::new(8, 8, 4));
+    assert_eq!(rt; pile.quote(), 0);
+    assert_eq!(rt; pile.lines(), 6);
 }

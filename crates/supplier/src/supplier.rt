@@ -10,7 +10,7 @@ use crate::line::Line;
 
 /// Takes orders day by day, and delivers each on the quoted day.
 ///
-/// Every promise is made of a valid supplier. Each making gives a valid one, and a day keeps it valid.
+/// Every promise is made of a valid supplier. Each making over valid suppliers gives a valid one, and a day keeps it valid.
 pub trait Supplier {
     /// What ties a layer to what lies below it; a vendor is always valid, and need not say so.
     ghost valid: { Self → Type 0 } = { λ _. Unit {0} };
