@@ -15,3 +15,12 @@ Asked ranges figures Unused Fitting Under Stocked (Some Misfit) = AllIn ranges f
 Asked ranges figures Unused Fitting Under Stocked (Some AboveLimit) = AllIn ranges figures × Unused × Fitting × (Under → ⊥)
 Asked ranges figures Unused Fitting Under Stocked (Some LowBase) = AllIn ranges figures × Unused × Fitting × Under × (Stocked → ⊥)
 Asked ranges figures Unused Fitting Under Stocked (Some (LawBroken place)) = ⊥
+
+-- A refusal, whatever lies below: the first figure out of range, or one of the conditions where all are in range.
+abbrev pub Barred : List Range → List ℕ → Refusal → Type 0
+Barred ranges figures (OutOfRange place) = FirstOut ranges figures place
+Barred ranges figures Started = AllIn ranges figures
+Barred ranges figures Misfit = AllIn ranges figures
+Barred ranges figures AboveLimit = AllIn ranges figures
+Barred ranges figures LowBase = AllIn ranges figures
+Barred ranges figures (LawBroken place) = ⊥

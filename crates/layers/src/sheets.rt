@@ -17,6 +17,7 @@ pub fn lines_over(below: usize) -> usize
 /// The line with i lines above it on the sheet of a layer over one supplier, where that is a line below the layer's own.
 pub fn line_below<S: Supplier>(below: &S, i: usize) -> Option<Line>
     ensures none { i ≡ 0 → result ≡ None }
+    ensures cut { most_lines ≤ i → result ≡ None }
     ensures told { S.valid below.now → (own : Row) → 1 ≤ i → result ≡ slice_get (topped own (S.meaning below.now).sheet) i }
 {
     let place = i.checked_sub(1)?;

@@ -1,9 +1,10 @@
 // The question and the making of an assembly.
-ghost use Rattle.std.specs.Prelude.{◌≤◌, [], ◌∷◌, IfNone};
+ghost use Rattle.std.specs.Prelude.{◌≡◌, ◌≤◌, [], ◌∷◌, IfNone, IfSome};
 ghost use Rattle.figures.specs.Ranges.{AllIn};
 ghost use Rattle.supplier.specs.Numbers.{named};
-ghost use Rattle.layers.specs.Makings.{Given};
-ghost use Rattle.assemblies.specs.AssemblyMaking.{assembly_ranges, AssemblyAsked, AssemblyPasses, AssemblyNew};
+ghost use Rattle.layers.specs.Makings.{Given, Keeps};
+ghost use Rattle.layers.specs.Questions.{Barred};
+ghost use Rattle.assemblies.specs.AssemblyMaking.{assembly_ranges, Unkitted, AssemblyAsked, AssemblyPasses, AssemblyNew};
 
 use crate::assembly::Assembling;
 use crate::kits::Kits;
@@ -26,6 +27,7 @@ impl<L: Supplier, R: Supplier> Assembling<L, R> {
     /// The refusal of kits of so many parts of these two suppliers, or none.
     pub fn question(left: &L, right: &R, number: u64, a: u64, b: u64) -> Option<Refusal>
         ensures ranged { IfNone result (AllIn assembly_ranges (number ∷ a ∷ b ∷ [])) }
+        ensures barred { IfSome result (Barred assembly_ranges (number ∷ a ∷ b ∷ [])) }
         ensures asked { L.valid left.now → R.valid right.now → AssemblyAsked (L.meaning left.now) (R.meaning right.now) number a b result }
     {
         // One test after the other, each with its refusal: a chain of `or_else` says no more.
@@ -40,7 +42,8 @@ impl<L: Supplier, R: Supplier> Assembling<L, R> {
 
     /// An assembly of these two suppliers; an idle layer where the question refuses it.
     pub fn over(left: L, right: R, number: u64, a: u64, b: u64) -> Assembly<L, R>
-        ensures { L.valid left → R.valid right → Given (AssemblyPasses (L.meaning left) (R.meaning right) number a b)
+        ensures kept { Keeps (λ w. (w.left ≡ left) × (w.right ≡ right) × Unkitted number a b w.own) Kind.Assembly (named number) (left, right) result }
+        ensures made { L.valid left → R.valid right → Given (AssemblyPasses (L.meaning left) (R.meaning right) number a b)
             (AssemblyNew L.valid R.valid L.meaning R.meaning left right number a b) Kind.Assembly (named number) (left, right) result }
     {
         if Assembling::question(&left, &right, number, a, b).is_some() {

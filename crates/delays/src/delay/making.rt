@@ -1,9 +1,10 @@
 // The question and the making of a delay.
-ghost use Rattle.std.specs.Prelude.{◌≤◌, [], ◌∷◌, IfNone};
+ghost use Rattle.std.specs.Prelude.{◌≡◌, ◌≤◌, [], ◌∷◌, IfNone, IfSome};
 ghost use Rattle.figures.specs.Days.{horizon};
 ghost use Rattle.figures.specs.Ranges.{AllIn};
 ghost use Rattle.supplier.specs.Numbers.{named};
-ghost use Rattle.layers.specs.Makings.{Given};
+ghost use Rattle.layers.specs.Makings.{Given, Keeps};
+ghost use Rattle.layers.specs.Questions.{Barred};
 ghost use Rattle.delays.specs.DelayMaking.{delay_ranges, DelayAsked, DelayPasses, DelayNew, Fresh};
 
 use crate::delay::Delaying;
@@ -37,6 +38,7 @@ impl<S: Supplier> Delaying<S> {
     /// The refusal of a delay of so many days over this supplier, or none.
     pub fn question(below: &S, number: u64, delay: u64) -> Option<Refusal>
         ensures ranged { IfNone result (AllIn delay_ranges (number ∷ delay ∷ [])) }
+        ensures barred { IfSome result (Barred delay_ranges (number ∷ delay ∷ [])) }
         ensures asked { S.valid below.now → DelayAsked (S.meaning below.now) number delay result }
     {
         // One test after the other, each with its refusal: a chain of `or_else` says no more.
@@ -54,7 +56,8 @@ impl<S: Supplier> Delaying<S> {
 
     /// A delay of so many days over this supplier; an idle layer where the question refuses it.
     pub fn over(below: S, number: u64, delay: u64) -> Delay<S>
-        ensures { S.valid below → Given (DelayPasses (S.meaning below) number delay)
+        ensures kept { Keeps (λ w. (w.below ≡ below) × Fresh number delay w.own) Kind.Delay (named number) below result }
+        ensures made { S.valid below → Given (DelayPasses (S.meaning below) number delay)
             (DelayNew S.valid S.meaning below number delay) Kind.Delay (named number) below result }
     {
         if Delaying::question(&below, number, delay).is_some() {

@@ -1,11 +1,12 @@
 // The question and the making of a stage.
-ghost use Rattle.std.specs.Prelude.{◌≤◌, [], ◌∷◌, IfNone};
+ghost use Rattle.std.specs.Prelude.{◌≡◌, ◌≤◌, [], ◌∷◌, IfNone, IfSome};
 ghost use Rattle.figures.specs.Days.{horizon, most, for_days};
 ghost use Rattle.figures.specs.Ranges.{AllIn};
 ghost use Rattle.supplier.specs.Numbers.{named};
-ghost use Rattle.layers.specs.Makings.{Given};
+ghost use Rattle.layers.specs.Makings.{Given, Keeps};
+ghost use Rattle.layers.specs.Questions.{Barred};
 ghost use Rattle.figures.specs.Joins.{Joins};
-ghost use Rattle.stages.specs.StageMaking.{stage_ranges, StageAsked, StagePasses, StageNew, Stocked};
+ghost use Rattle.stages.specs.StageMaking.{stage_ranges, Copies, StageAsked, StagePasses, StageNew, Stocked};
 
 use crate::stage::Staging;
 use crate::stage::bounds::{copied, under};
@@ -61,6 +62,7 @@ impl<S: Supplier> Staging<S> {
         envelope: &E,
     ) -> Option<Refusal>
         ensures ranged { IfNone result (AllIn stage_ranges (number ∷ process ∷ quote ∷ base ∷ [])) }
+        ensures barred { IfSome result (Barred stage_ranges (number ∷ process ∷ quote ∷ base ∷ [])) }
         ensures asked { S.valid below.now → StageAsked (S.meaning below.now) (E.meaning envelope.now).bound number process quote base result }
     {
         // One test after the other, each with its refusal: a chain of `or_else` says no more.
@@ -92,7 +94,9 @@ impl<S: Supplier> Staging<S> {
         base: u64,
         envelope: &E,
     ) -> Stage<S>
-        ensures { S.valid below → Given (StagePasses (S.meaning below) (E.meaning envelope.now).bound number process quote base)
+        ensures kept { Keeps (λ w. (w.below ≡ below) × Copies (E.meaning envelope.now).bound w.own.ledger.limits.bounds
+            × Stocked number w.own.ledger.limits.bounds process quote base w.own) Kind.Stage (named number) below result }
+        ensures made { S.valid below → Given (StagePasses (S.meaning below) (E.meaning envelope.now).bound number process quote base)
             (StageNew S.valid S.meaning below (E.meaning envelope.now).bound number process quote base) Kind.Stage (named number) below result }
     {
         if Staging::question(&below, number, process, quote, base, envelope).is_some() {

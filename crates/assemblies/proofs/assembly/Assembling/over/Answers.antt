@@ -5,16 +5,16 @@ use Rattle.assemblies.specs.AssemblyMaking.{assembly_ranges, Unkitted}
 use Rattle.assemblies.proofs.Kitted.{joined_new}
 use Rattle.assemblies.proofs.assembly.Assembling.over.Goals as goal
 
-pub returns-then-is_some : goal.returns-then-is_some
-returns-then-is_some g c v w =
+pub returns-then-is_some-clause-made : goal.returns-then-is_some-clause-made
+returns-then-is_some-clause-made g c v w =
     let a = c.args in
     let unused = ((g.L.Supplier.meaning a.left).service.days ≡ 0) × ((g.R.Supplier.meaning a.right).service.days ≡ 0) in
     given_resting _ _ _ _ _ _
     (never_asked assembly_ranges (a.number ∷ a.a ∷ a.b ∷ []) unused (Unit {0}) (Unit {0}) (Unit {0}) c.question.result (sym c.if-is_some.ensures) (c.question.ensures.asked v w))
     c.resting.ensures
 
-pub returns : goal.returns
-returns g c v w =
+pub returns-clause-made : goal.returns-clause-made
+returns-clause-made g c v w =
     let a = c.args in
     let left = g.L.Supplier.meaning a.left in
     let right = g.R.Supplier.meaning a.right in

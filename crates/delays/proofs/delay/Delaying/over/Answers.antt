@@ -6,8 +6,8 @@ use Rattle.delays.specs.DelayMaking.{DelayAsked, Fresh}
 use Rattle.delays.proofs.Lateness.{new_book}
 use Rattle.delays.proofs.delay.Delaying.over.Goals as goal
 
-pub returns : goal.returns
-returns g c v =
+pub returns-clause-made : goal.returns-clause-made
+returns-clause-made g c v =
     let m = (g.S.Supplier.meaning c.args.below).service in
     let e = c.fresh.ensures in
     let none : c.question.result ≡ None = search rules in

@@ -9,8 +9,8 @@ use Rattle.stages.specs.StageMaking.{stage_ranges, StageAsked, Under, Copies, St
 use Rattle.stages.proofs.Opening.{tied_new}
 use Rattle.stages.proofs.stage.Staging.over.Goals as goal
 
-pub returns-then-is_some : goal.returns-then-is_some
-returns-then-is_some g c v =
+pub returns-then-is_some-clause-made : goal.returns-then-is_some-clause-made
+returns-then-is_some-clause-made g c v =
     let m = g.S.Supplier.meaning c.args.below in
     let V = (g.E.Envelope.meaning c.args.envelope.now).bound in
     let a = c.args in
@@ -25,8 +25,8 @@ stocked-own-requires-clause-small g c =
     let p : AllIn stage_ranges (c.args.number ∷ c.args.process ∷ c.args.quote ∷ c.args.base ∷ []) = search rules in
     (p 3 (omega arith) (omega arith)).1
 
-pub returns : goal.returns
-returns g c v =
+pub returns-clause-made : goal.returns-clause-made
+returns-clause-made g c v =
     let m = g.S.Supplier.meaning c.args.below in
     let V = (g.E.Envelope.meaning c.args.envelope.now).bound in
     let a = c.args in
