@@ -1,12 +1,16 @@
 // What a caller may build over the library: a struct that holds a pile over any supplier, and a supplier that is not always valid.
 ghost use Rattle.std.specs.Prelude.{◌≡◌, false};
+ghost use Rattle.std.specs.List.{slice_get};
+ghost use Rattle.layers.specs.Sheets.{topped};
+ghost use Rattle.supplier.specs.declared.line.Line.{Line as Row};
 
 use assemblies::{Assembling, Assembly};
 use delays::{Delay, Delaying};
 use envelope::Bucket;
+use layers::{Layer, line_below, line_under};
 use stages::{Stage, Staging};
 use std::test::Fail;
-use supplier::{Fault, Line, Supplier};
+use supplier::{AlwaysValid, Fault, Kind, Line, Supplier};
 use vendors::Pipeline;
 
 /// Two delays over any supplier.
@@ -109,6 +113,13 @@ fn two_delays(broken: bool) -> Depot<Breakable<Pipeline>>
     }
 }
 
+/// The first line below a layer's own; over a supplier that is always valid no premise is needed.
+fn first_below<S: AlwaysValid>(below: &S) -> Option<Line>
+    ensures { (own : Row) → result ≡ slice_get (topped own (S.meaning below.now).sheet) 1 }
+{
+    line_below(below, 1)
+}
+
 #[test]
 fn depot_days(rt: HostRuntime) -> Result<(), Fail> {
     let mut depot = two_delays(false);
@@ -133,4 +144,29 @@ fn a_pile_of_layers(rt: HostRuntime) {
     let pile = stage(kits, &Bucket::new(8, 8, 4));
     assert_eq!(rt; pile.quote(), 0);
     assert_eq!(rt; pile.lines(), 6);
+}
+
+#[test]
+fn lines_below_a_vendor(rt: HostRuntime) {
+    let vendor = Pipeline::new(1, 2, 8);
+    assert_eq!(rt; line_below(&vendor, 0), None);
+    assert_eq!(rt; line_below(&vendor, 1), vendor.line(0));
+    assert_eq!(rt; line_below(&vendor, 2), None);
+    assert_eq!(rt; first_below(&vendor), line_under(&vendor, 1));
+}
+
+#[test]
+fn lines_below_an_idle_layer(rt: HostRuntime) {
+    let idle: Layer<Pipeline, Pipeline> = Layer::resting(4, Kind::Delay, Pipeline::new(1, 2, 8));
+    assert_eq!(rt; line_below(&idle, 1).map(|line| line.number), Some(4));
+    assert_eq!(rt; line_below(&idle, 2), None);
+    assert_eq!(rt; line_below(&idle, 1_000), None);
+}
+
+#[test]
+fn lines_under_two_delays(rt: HostRuntime) {
+    let depot = two_delays(false);
+    assert_eq!(rt; line_under(&depot.pile, 1).map(|line| line.number), Some(3));
+    assert_eq!(rt; line_under(&depot.pile, 3).map(|line| line.number), Some(1));
+    assert_eq!(rt; line_under(&depot.pile, 4), None);
 }

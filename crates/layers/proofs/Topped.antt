@@ -67,7 +67,7 @@ pub figures-later : (ps : List Placed) → figures_of (map later ps) ≡ figures
 figures-later [] = refl
 figures-later (p ∷ ps) = ap (λ hs. p.shelf ∷ hs) (figures-later ps)
 
--- a line below a layer's own, as `line_below` tells it of a valid supplier
+-- a line below a layer's own, as `line_under` tells it of a valid supplier
 pub told_below : (valid : Type 0) (told : Option Line) (below : List Line) (i : ℕ) → (valid → (own : Line) → 1 ≤ i → told ≡ slice_get (topped own below) i) →
     valid → 1 ≤ i → (own : Line) → told ≡ slice_get (topped own below) i
 told_below valid told below i says v some own = says v own some

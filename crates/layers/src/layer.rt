@@ -6,7 +6,7 @@ ghost use Rattle.vendors.specs.Periods.{nothing};
 ghost use Rattle.layers.specs.declared.layer.Layer.TheVariants.{Working, Idle};
 ghost use Rattle.vendors.specs.Serving.{vendor_sound};
 
-use supplier::{Fault, Line, Supplier};
+use supplier::{AlwaysValid, Fault, Line, Supplier};
 use vendors::Idle;
 
 /// `W` works over what is below; `B` is what an idle layer holds and never calls.
@@ -86,4 +86,8 @@ impl<W: Supplier, B> Supplier for Layer<W, B> {
             Layer::Idle(idle, _) => idle.day(q),
         }
     }
+}
+
+impl<W: AlwaysValid, B> AlwaysValid for Layer<W, B> {
+    ghost always = { elim [ Working w ↦ W.AlwaysValid.always w | Idle i b ↦ tt ] };
 }

@@ -10,5 +10,5 @@ mod sheets;
 pub use carrying::carry;
 pub use layer::Layer;
 pub use sending::send;
-pub use sheets::{line_below, lines_over};
+pub use sheets::{line_below, line_under, lines_over};
 pub use vendors::Idle;

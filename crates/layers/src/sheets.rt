@@ -5,7 +5,7 @@ ghost use Rattle.std.specs.List.{slice_get};
 ghost use Rattle.supplier.specs.Meaning.{most_lines};
 ghost use Rattle.layers.specs.Sheets.{topped};
 
-use supplier::{Line, MOST_LINES, Supplier};
+use supplier::{AlwaysValid, Line, MOST_LINES, Supplier};
 
 /// The lines that a layer tells: its own, and those below, up to the most lines.
 pub fn lines_over(below: usize) -> usize
@@ -15,7 +15,7 @@ pub fn lines_over(below: usize) -> usize
 }
 
 /// The line with i lines above it on the sheet of a layer over one supplier, where that is a line below the layer's own.
-pub fn line_below<S: Supplier>(below: &S, i: usize) -> Option<Line>
+pub fn line_under<S: Supplier>(below: &S, i: usize) -> Option<Line>
     ensures none { i ≡ 0 → result ≡ None }
     ensures cut { most_lines ≤ i → result ≡ None }
     ensures told { S.valid below.now → (own : Row) → 1 ≤ i → result ≡ slice_get (topped own (S.meaning below.now).sheet) i }
@@ -26,4 +26,13 @@ pub fn line_below<S: Supplier>(below: &S, i: usize) -> Option<Line>
     } else {
         None
     }
+}
+
+/// The same over a supplier that is always valid, and so with no premise.
+pub fn line_below<S: AlwaysValid>(below: &S, i: usize) -> Option<Line>
+    ensures none { i ≡ 0 → result ≡ None }
+    ensures cut { most_lines ≤ i → result ≡ None }
+    ensures told { (own : Row) → 1 ≤ i → result ≡ slice_get (topped own (S.meaning below.now).sheet) i }
+{
+    line_under(below, i)
 }

@@ -1,6 +1,7 @@
 // What a supplier is: faults, lines, limits, the book of orders, and the trait with its meaning.
 #![tactic(auto)]
 
+mod always;
 mod book;
 mod fault;
 mod ledger;
@@ -9,6 +10,7 @@ mod line;
 mod numbers;
 mod supplier;
 
+pub use always::AlwaysValid;
 pub use book::Book;
 pub use book::broken::Broken;
 pub use fault::{Cause, Fault, MOST_LAYERS};

@@ -43,7 +43,7 @@ impl<L: Supplier, R: Supplier> Supplier for Assembling<L, R> {
     }
 
     fn line(&self, i: usize) -> Option<Line> {
-        // Two suppliers lie below, so `line_below`, which tells the lines of one, does not serve.
+        // Two suppliers lie below, so `line_under`, which tells the lines of one, does not serve.
         if i >= MOST_LINES {
             return None;
         }

@@ -5,7 +5,7 @@ ghost use Rattle.delays.specs.Delays.{delayed, delay_layout, Late};
 ghost use Rattle.delays.specs.DelayLaws.{delayed_sound, delayed_shelved};
 
 use crate::delay::Delaying;
-use layers::{carry, line_below, lines_over};
+use layers::{carry, line_under, lines_over};
 use supplier::{Fault, Kind, Line, Supplier};
 
 impl<S: Supplier> Supplier for Delaying<S> {
@@ -41,7 +41,7 @@ impl<S: Supplier> Supplier for Delaying<S> {
 
     fn line(&self, i: usize) -> Option<Line> {
         if i > 0 {
-            return line_below(&self.below, i);
+            return line_under(&self.below, i);
         }
         Some(Line {
             number: self.own.number,

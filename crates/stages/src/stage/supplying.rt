@@ -5,7 +5,7 @@ ghost use Rattle.stages.specs.Stages.{staged, stage_layout, own_shelf, bound_of,
 ghost use Rattle.stages.specs.StageLaws.{staged_sound, staged_shelved, staged_enveloped};
 
 use crate::stage::Staging;
-use layers::{line_below, lines_over, send};
+use layers::{line_under, lines_over, send};
 use supplier::{Fault, Kind, Line, Supplier};
 
 impl<S: Supplier> Supplier for Staging<S> {
@@ -43,7 +43,7 @@ impl<S: Supplier> Supplier for Staging<S> {
 
     fn line(&self, i: usize) -> Option<Line> {
         if i > 0 {
-            return line_below(&self.below, i);
+            return line_under(&self.below, i);
         }
         Some(Line {
             number: self.own.ledger.number,

@@ -8,7 +8,7 @@ ghost use Rattle.vendors.specs.Serving.{vendor_sound};
 
 use crate::terms::Terms;
 use crate::vendor::Vendor;
-use supplier::{Fault, Line, Supplier};
+use supplier::{AlwaysValid, Fault, Line, Supplier};
 
 impl<T: Terms> Supplier for Vendor<T> {
     ghost meaning = { λ v. vendor_of (T.kind v.terms) (T.limit v.terms) v.source };
@@ -58,4 +58,8 @@ impl<T: Terms> Supplier for Vendor<T> {
     {
         self.source.day(q)
     }
+}
+
+impl<T: Terms> AlwaysValid for Vendor<T> {
+    ghost always = { λ _. tt };
 }
